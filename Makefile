@@ -1,8 +1,10 @@
 # `make` alone prints the targets. SCRIPT is any path, from here or from the root, and so is the folder DATA.
 SCRIPT ?= examples/plain_path.script
 export SCRIPT DATA
+# With TRY=1 a run that is drawn or checked is played before any proof.
+PLAY = $(if $(TRY),try,play)
 
-.PHONY: help test play built try view bench script
+.PHONY: help test play built try view check bench script
 
 help:
 	@echo 'make test               the gate: proves every crate, tries the must-fail edits, runs tests and programs (45 to 90 minutes)'
@@ -10,6 +12,8 @@ help:
 	@echo '                        with DATA=DIR its logs are kept in new files of this folder'
 	@echo 'make try SCRIPT=PATH    plays a script before any proof (about a minute)'
 	@echo 'make view SCRIPT=PATH   plays as make play does, and draws the run as a page beside the script'
+	@echo 'make check SCRIPT=PATH  plays as make play does, and names the lines that went wrong'
+	@echo '                        with TRY=1 these two play as make try does, before any proof'
 	@echo 'make bench              proves and measures the play, of sites and crashes too, and reading and printing (minutes, after make play)'
 	@echo
 	@echo 'The times are for four processors with nothing else to do. Without SCRIPT, $(SCRIPT) is played.'
@@ -50,9 +54,14 @@ try: script
 # Draws beside the script, or where that can't be written, into a temporary file. The page's name is told.
 view: script
 	@folder=$$(mktemp -d) && name=$$(basename "$$SCRIPT" .script).html && page=$$(dirname "$$SCRIPT")/$$name && \
-		$(MAKE) -s --no-print-directory play > "$$folder/replies" && \
+		$(MAKE) -s --no-print-directory $(PLAY) > "$$folder/replies" && \
 		{ test -w "$$(dirname "$$SCRIPT")" || page=$$folder/$$name; } && \
 		python3 view/run.py "$$SCRIPT" "$$folder/replies" -o "$$page" && echo "make view: drawn in $$page"
+
+# Says which lines of the script went wrong.
+check: script
+	@folder=$$(mktemp -d) && $(MAKE) -s --no-print-directory $(PLAY) > "$$folder/replies" && \
+		{ python3 view/wrong.py "$$SCRIPT" "$$folder/replies"; status=$$?; rm -r "$$folder"; test $$status -lt 2; }
 
 bench:
 	@echo 'make bench: proves dc_shell and text_bench, as make play does, and measures them.' >&2

@@ -1,91 +1,109 @@
-#!/usr/bin/env python3
-"""A program that uses the database through pipes: a cart that two sites change at once.
+"""A client over pipes: a program imports it, opens a database of its own, asks, and closes.
 
-    python3 examples/client.py [PROGRAM]
+    from client import Database, Refused
+    with Database(sites=2, parts=1) as shop:
+        shop.ask("session", "ana", 1)
+        print(shop.one("begin", "ana"))
 
-PROGRAM is crates/dc_shell/out/dc_shell, which `make play` leaves there. Commands go to it as frames, and come back as
-frames of JSON objects, so that texts may hold anything and no reply has to be cut out of a stream."""
+Commands go to the program as frames, and its replies come back as frames of JSON objects, so that texts may hold
+anything. The replies to a command end where those to a mark begin: a second `cluster`, which is always refused.
+"""
 import json
 import os
 import subprocess
-import sys
 
-HERE = os.path.dirname(os.path.abspath(__file__))
-PROGRAM = sys.argv[1] if len(sys.argv) > 1 else os.path.join(HERE, "../crates/dc_shell/out/dc_shell")
+BUILT = os.path.join(os.path.dirname(os.path.abspath(__file__)), "../crates/dc_shell/out/dc_shell")
+MARK = b"cluster 1 1"
+REFUSALS = ("bad", "no", "has", "limit", "down", "wait", "gone", "disk", "unsure", "damaged", "gap")
 
 
 class Refused(Exception):
-    """A command was answered with a refusal."""
+    """A command was answered with a refusal, whose text this is; `replies` has all that it was answered with."""
+
+    def __init__(self, text, replies):
+        super().__init__(text)
+        self.replies = replies
+
+
+class Closed(Exception):
+    """The program isn't there, or has ended: the text tells which, and with what."""
+
+
+def text(word):
+    """A text as a script spells it, whatever it holds. What a reply shows may be given back as it is."""
+    return json.dumps(word)
 
 
 class Database:
-    """A cluster in a process of its own."""
+    """A cluster in a process of its own. It lives as long as this does, or in files of the folder `data`."""
 
-    # A second cluster is refused, and changes nothing: its reply tells that those to the command before are all there.
-    MARK = "cluster 1 1"
-    REFUSALS = ("bad", "no ", "has ", "limit ", "down ", "wait ", "gone ", "disk ", "unsure ", "damaged ", "gap ")
-
-    def __init__(self, sites, parts):
-        words = [PROGRAM, "play", "--frames", "--json"]
-        self.process = subprocess.Popen(words, stdin=subprocess.PIPE, stdout=subprocess.PIPE)
+    def __init__(self, sites, parts, data=None, program=BUILT):
+        words = [program, "play", "--frames", "--json"] + ([] if data is None else ["--data", data])
+        pipes = dict.fromkeys(("stdin", "stdout", "stderr"), subprocess.PIPE)
+        try:
+            self.process = subprocess.Popen(words, **pipes)
+        except OSError as error:
+            raise Closed("%s: %s; `make play` proves and makes it" % (program, error.strerror)) from error
         self.lines = 0
-        self.ask("cluster", sites, parts)
+        try:
+            self.ask("cluster", sites, parts)
+        except Refused:
+            self.close()
+            raise
 
     def ask(self, *words):
-        """The replies to a command."""
-        frames = [" ".join(str(word) for word in words).encode(), self.MARK.encode()]
-        self.process.stdin.write(b"".join(len(frame).to_bytes(2, "big") + frame for frame in frames))
-        self.process.stdin.flush()
-        self.lines += 2
-        replies = list(iter(self.reply, None))
-        for reply in replies:
-            if reply["reply"].startswith(self.REFUSALS):
-                raise Refused(reply["reply"])
-        return replies
+        """The replies to a command, each the text of its line. Its words are texts as `text` spells them, or numbers.
 
-    def reply(self):
+        Refused where one of them is a refusal, Closed where the program has ended.
+        """
+        return [reply["reply"] for reply in self.replies(*words)]
+
+    def one(self, *words):
+        """The reply to a command that has one."""
+        (reply,) = self.ask(*words)
+        return reply
+
+    def value(self, *words):
+        """The value that a `read` shows, as JSON has it."""
+        (reply,) = self.replies("read", *words)
+        return reply["value"]
+
+    def replies(self, *words):
+        """The replies to a command, each an object with `line` and `reply`, and with `value` where it shows one."""
+        frames = " ".join(str(word) for word in words).encode(), MARK
+        self.lines += 2
+        try:
+            self.process.stdin.write(b"".join(len(frame).to_bytes(2, "big") + frame for frame in frames))
+            self.process.stdin.flush()
+            # What answers the mark bears the number of its line.
+            found = list(iter(self.receive, None))
+        except (BrokenPipeError, EOFError) as error:
+            said = self.process.stderr.read().decode(errors="replace").strip()
+            raise Closed("the program ended with status %d: %s" % (self.process.wait(), said)) from error
+        for reply in found:
+            if reply["reply"].split(" ")[0] in REFUSALS:
+                raise Refused(reply["reply"], found)
+        return found
+
+    def receive(self):
         """The next reply to the command, if there is one more."""
-        size = int.from_bytes(self.process.stdout.read(4), "big")
-        reply = json.loads(self.process.stdout.read(size))
+        reply = json.loads(self.read(int.from_bytes(self.read(4), "big")))
         return reply if reply["line"] < self.lines else None
 
-    def read(self, session, key, kind):
-        return self.ask("read", session, json.dumps(key), kind)[0]["value"]
-
-    def change(self, session, key, kind, *act):
-        """A transaction of one update."""
-        self.ask("begin", session)
-        self.ask("update", session, json.dumps(key), kind, *act)
-        self.ask("commit", session)
-
-    def share(self, number, sender, receiver):
-        """What one site has committed goes to another as the message of this number."""
-        self.ask("send", "%d.1" % sender, receiver)
-        self.ask("deliver", "m%d" % number)
+    def read(self, size):
+        read = self.process.stdout.read(size)
+        if len(read) < size:
+            raise EOFError
+        return read
 
     def close(self):
-        self.process.stdin.close()
+        """Ends the program, and tells its status: 0, or 1 where a line was bad, or as docs/SCRIPT.md says."""
+        for pipe in self.process.stdin, self.process.stdout, self.process.stderr:
+            pipe.close()
         return self.process.wait()
 
+    def __enter__(self):
+        return self
 
-def main():
-    shop = Database(2, 1)
-    for name, site in (("ana", 1), ("ben", 2)):
-        shop.ask("session", name, site)
-        shop.ask("clock", "%d.1" % site, 100)
-    # Both change the cart of one customer, at two sites, before either hears of the other.
-    shop.change("ana", "cart of Zoë", "set_aw", "add", json.dumps("oat milk"), "tea")
-    shop.change("ben", "cart of Zoë", "set_aw", "add", "bread")
-    shop.share(1, 1, 2)
-    shop.share(2, 2, 1)
-    for name in ("ana", "ben"):
-        shop.ask("begin", name)
-        print(name, "sees", shop.read(name, "cart of Zoë", "set_aw"))
-    try:
-        shop.ask("begin", "ana")
-    except Refused as refusal:
-        print("refused:", refusal)
-    print("ended with", shop.close())
-
-
-main()
+    def __exit__(self, *_):
+        self.close()

@@ -58,11 +58,20 @@ def row(profile, lines, found):
     return "| %s |" % " | ".join(cells)
 
 
+def apart(places):
+    """How far down the names at these places stand, none over another."""
+    down, last = {}, None
+    for at, (_, y) in sorted(enumerate(places), key=lambda one: one[1][1]):
+        last = y if last is None else max(y, last + 13)
+        down[at] = last
+    return [down[at] for at in range(len(places))]
+
+
 def picture(points, file):
     """Draws lines a second against lines; both by powers of ten."""
     from math import ceil, log10
 
-    wide, high, left, low = 640, 400, 70, 40
+    wide, high, left, low = 640, 400, 86, 40
     xs = [log10(lines) for drawn in points.values() for lines, _ in drawn]
     ys = [log10(speed) for drawn in points.values() for _, speed in drawn]
     x0, x1, y0, y1 = min(xs), max(max(xs), min(xs) + 1), int(min(ys)), int(max(ys)) + 1
@@ -80,11 +89,12 @@ def picture(points, file):
     for power in range(ceil(x0 - 0.01), int(x1) + 1):
         x, _ = place(10**power, 10**y0)
         out.append('<text x="%.0f" y="%d" text-anchor="middle">%s lines</text>' % (x, high - 12, format(10**power, ",")))
-    for (name, drawn), colour in zip(points.items(), COLOURS):
+    labels = apart([place(*drawn[-1]) for drawn in points.values()])
+    for (name, drawn), colour, label in zip(points.items(), COLOURS, labels):
         path = " ".join("%.1f,%.1f" % place(*point) for point in drawn)
-        x, y = place(*drawn[-1])
+        x, _ = place(*drawn[-1])
         out.append('<polyline points="%s" fill="none" stroke="%s" stroke-width="2"/>' % (path, colour))
-        out.append('<text x="%.0f" y="%.0f" fill="%s">%s</text>' % (x + 6, y + 4, colour, name))
+        out.append('<text x="%.0f" y="%.0f" fill="%s">%s</text>' % (x + 6, label + 4, colour, name))
     with open(file, "w") as sink:
         sink.write("\n".join(out) + "\n</svg>\n")
 
