@@ -57,7 +57,7 @@ class Script:
     def begin(self):
         session = self.one(["a", "b", "c"])
         self.begun.add(session)
-        return "begin %s%s" % (session, self.one(["", "", " " + self.place()]))
+        return "begin %s%s%s" % (session, self.one(["", "", " " + self.place()]), self.one(["", "", " stable"]))
 
     def commit(self):
         session = self.session()
