@@ -1,0 +1,4 @@
+mod Lines
+mod Objects
+mod Sums
+mod Names

@@ -1,0 +1,4 @@
+pub mod Load
+pub mod Changes
+pub mod Summary
+pub mod Text
