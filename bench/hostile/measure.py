@@ -23,7 +23,7 @@ COMMANDS = ["cluster", "clock", "session", "move", "lose", "begin", "read", "upd
 KINDS = ["counter_pn", "counter_fat", "set_go", "set_aw", "set_rw", "flag_ew", "flag_dw", "register_lww", "register_mv",
          "map_go", "map_rr", "counter_b"]
 ACTS = ["increment", "decrement", "reset", "add", "remove", "enable", "disable", "assign", "in", "drop", "stable"]
-PLACES = ["1.1", "1.2", "8.16", "0.1", "9.1", "1.17", "01.1", "1.", ".1", "1.1#101", "1.1#0", "1.1#281474976710656"]
+PLACES = ["1.1", "1.2", "8.16", "0.1", "9.1", "1.17", "001.1", "1.", ".1", "1.1#101", "1.1#0", "1.1#281474976710656"]
 NUMBERS = ["0", "1", "05", "-1", "8", "9", "16", "17", "256", "2147483647", "2147483648", "-2147483648",
            "281474976710655", "281474976710656", "18446744073709551616", "m1", "g1", "m0", "i1"]
 TEXTS = ["a", "b", "k", "j", '"k"', '""', '"a b"', '"\\u00e9"', '"\\ud800"', '"\\n"', '"open', '"x\\"', "@", "@shop",
