@@ -1,6 +1,6 @@
 //! Crashes, full disks and damaged logs, as a table.
 //!
-//! `disk_table table` prints it: its stored run is the test of disk_core, gate_log and disk_makers.
+//! `disk_table table` prints it: its stored run is the test of disk_core, gate_log, twin_log and disk_makers.
 //! `disk_table append N`, `disk_table open N` and `disk_table copy N` do so many appends, openings and copies, for
 //! bench/log to measure.
 #![tactic(auto)]
@@ -9,6 +9,7 @@ mod again;
 mod bench;
 mod logs;
 mod table;
+mod twin;
 mod words;
 
 use std::{env, io};

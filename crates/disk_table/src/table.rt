@@ -4,7 +4,7 @@ ghost use Rattle.gate_log.specs.Logs.{IsReady};
 ghost use Rattle.disk_core.specs.MemDisks.{mem_state};
 
 use crate::logs::new_log;
-use crate::{again, words};
+use crate::{again, twin, words};
 use disk_core::{Disk, Fused, MemDisk, SureDisk};
 use gate_log::{GateLog, format};
 use std::alloc::{AllocError, Global};
@@ -40,7 +40,7 @@ const LOGS: [&[u8]; 15] = [
 ];
 
 /// All that a disk holds, in hexadecimal.
-fn bytes_of_disk(alloc: Global, disk: &mut MemDisk) -> io::Result<String> {
+pub(crate) fn bytes_of_disk(alloc: Global, disk: &mut MemDisk) -> io::Result<String> {
     let Ok(len) = disk.len() else {
         return Err(io::ErrorKind::Other.into());
     };
@@ -178,7 +178,7 @@ pub(crate) fn print(rt: &HostRuntime) -> io::Result<()> {
             print_log(rt, bytes)?;
         }
     }
-    Ok(())
+    twin::print(rt)
 }
 
 fn print_openings(rt: &HostRuntime) -> io::Result<()> {

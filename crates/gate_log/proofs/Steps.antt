@@ -5,12 +5,13 @@ use Rattle.std.proofs.lemmas.Bool.{false≢true}
 use Rattle.disk_core.specs.Images.{Content, Image, IsSettled, overwritten, after_write, after_sync}
 use Rattle.disk_core.specs.States.{Story, DiskState, fewer, Spared, moved, TearsAtMost}
 use Rattle.disk_core.specs.Moments.{AtEachMoment}
-use Rattle.disk_core.proofs.Inside.{only_settled, only_synced, synced}
+use Rattle.disk_core.proofs.Inside.{only_settled, only_synced, synced, amid_write}
 use Rattle.disk_core.proofs.Moments.{at_first, rested, moved_on, torn_on}
-use Rattle.gate_log.specs.Log.{header, body, records, IsSized, IsLog, IsBeforeOrAfter}
-use Rattle.gate_log.specs.Rest.{AtRest, Lowers, synced_write}
-use Rattle.gate_log.proofs.Grammar.{records-push, sized-push, end-push, either}
-use Rattle.gate_log.proofs.Writes.{DiffersWithin, of_write, of_torn_write, written_behind, written_over, gate_stays, rest_stays, length-gated}
+use Rattle.gate_log.specs.Log.{header, body, records, IsSized, IsLog, IsTail, IsTailWith, tail_end}
+use Rattle.gate_log.specs.Rest.{AtRest, RestsBehind, Lowers, synced_write}
+use Rattle.gate_log.proofs.Grammar.{sized-push, tail-push, opened, either}
+use Rattle.gate_log.proofs.Writes.{DiffersWithin, of_write, of_torn_write, written_behind, written_over, rest_stays, length-gated}
+use Rattle.gate_log.proofs.Kept.{front_kept, front_beside, tail_by_front, settled_rests}
 
 -- what the first call writes behind the gate
 abbrev pub staged : List ℕ → List ℕ
@@ -20,19 +21,33 @@ staged payload = body payload ++ 0 ∷ []
 pub is_log : (content : Content) (payloads : List (List ℕ)) (image : List ℕ) → IsSettled content → IsLog content.bytes payloads → Image content image → IsLog image payloads
 is_log content payloads image settled log left = subst (λ (l : List ℕ). IsLog l payloads) (sym (only_settled content image settled left)) log
 
--- before the first call
-pub at_rest : (disk : DiskState) (end : ℕ) (payloads : List (List ℕ)) (one : List ℕ) → AtRest disk end payloads → AtEachMoment disk.story disk.story (IsBeforeOrAfter payloads one)
-at_rest disk end payloads one rest = at_first disk.story (IsBeforeOrAfter payloads one) (λ image left. inl (is_log disk.story.now payloads image rest.settled rest.log left))
+-- a log at rest is a tail behind the header
+pub behind_header : (disk : DiskState) (end : ℕ) (payloads : List (List ℕ)) → AtRest disk end payloads → RestsBehind header disk end payloads
+behind_header disk end payloads rest = settled_rests header disk end payloads rest.tells rest.settled rest.log rest.place
 
-module _ (disk : DiskState) (end : ℕ) (one : List ℕ) (payloads : List (List ℕ)) (rest : AtRest disk end payloads) (sized : IsSized one) where
+-- and where all of it is durable, such a tail is a log at rest
+pub log_at_rest : (disk : DiskState) (end : ℕ) (payloads : List (List ℕ)) → RestsBehind header disk end payloads → IsSettled disk.story.now → AtRest disk end payloads
+log_at_rest disk end payloads rest settled = record { tells = rest.tells; settled = settled; log = rest.log; place = rest.place }
+
+-- every crash leaves all up to the closed gate
+pub tail_left : (front : List ℕ) (disk : DiskState) (end : ℕ) (payloads : List (List ℕ)) (image : List ℕ) → RestsBehind front disk end payloads → Image disk.story.now image → IsTail front image payloads
+tail_left front disk end payloads image rest left =
+    let kept = front_kept (end + 1) disk.story.now image (omega (arith, rest.durable)) rest.whole rest.unwritten left in
+    tail_by_front front end payloads disk.story.now.bytes image rest.log rest.place (omega (arith, rest.durable, left.no_shorter)) kept
+
+-- before the first call
+pub at_rest : (front : List ℕ) (disk : DiskState) (end : ℕ) (payloads : List (List ℕ)) (one : List ℕ) → RestsBehind front disk end payloads → AtEachMoment disk.story disk.story (IsTailWith front payloads one)
+at_rest front disk end payloads one rest = at_first disk.story (IsTailWith front payloads one) (λ image left. inl (tail_left front disk end payloads image rest left))
+
+module _ (head : List ℕ) (disk : DiskState) (end : ℕ) (one : List ℕ) (payloads : List (List ℕ)) (rest : RestsBehind head disk end payloads) (sized : IsSized one) where
   abbrev P : List ℕ → Type 0
-  P = IsBeforeOrAfter payloads one
+  P = IsTailWith head payloads one
 
   abbrev s0 : Story
   s0 = disk.story
 
   abbrev front : List ℕ
-  front = header ++ records payloads
+  front = head ++ records payloads
 
   abbrev gate : ℕ
   gate = rest.log.gate
@@ -47,23 +62,27 @@ module _ (disk : DiskState) (end : ℕ) (one : List ℕ) (payloads : List (List 
   long : length s0.now.bytes ≡ end + 1 + length rest.log.rest
   long = ap length rest.log.is ∙ length-gated front end rest.place gate rest.log.rest
 
+  abbrev c1 : Content
+  c1 = after_write (end + 1) (staged one) s0.now
+
   -- behind the gate anything may stand
-  behind_gate : (n : ℕ) (image : List ℕ) → DiffersWithin (end + 1) n s0.now.bytes image → P image
-  behind_gate n image differs =
-      let whole = gate_stays front end rest.place gate n rest.log.rest image (subst (λ (l : List ℕ). DiffersWithin (end + 1) n l image) rest.log.is differs) in
-      inl (record { gate = gate; rest = drop (end + 1) image; shut = rest.log.shut; is = whole; sized = rest.log.sized })
+  behind_gate : (image : List ℕ) → Image c1 image → P image
+  behind_gate image left =
+      let reach : end + 1 ≤ length image = omega (arith, rest.durable, left.no_shorter) in
+      let same = front_beside (end + 1) (staged one) s0.now image (omega (arith, rest.durable)) rest.whole rest.unwritten left in
+      inl (tail_by_front head end payloads s0.now.bytes image rest.log rest.place reach same)
 
   before : AtEachMoment s0 s0 P
-  before = at_rest disk end payloads one rest
+  before = at_rest head disk end payloads one rest
 
   pub staging_failed : (s1 : Story) → TearsAtMost (end + 1) (length (staged one)) s0 s1 → AtEachMoment s0 s1 P
   staging_failed s1 failed =
-      torn_on s0 s0 s1 (end + 1) (length (staged one)) P before failed (λ m less torn image left. behind_gate m image (of_torn_write (end + 1) m m s0.now s1.now image (omega arith) rest.settled torn left))
+      torn_on s0 s0 s1 (end + 1) (length (staged one)) P before failed (λ m less torn image left.
+      behind_gate image (amid_write (end + 1) m (staged one) s0.now s1.now image (omega (arith, long)) less rest.whole torn left))
 
-  module _ (s1 : Story) (first : s1 ≡ moved (after_write (end + 1) (staged one) s0.now) s0) where
+  module _ (s1 : Story) (first : s1 ≡ moved c1 s0) where
     pub staged_moment : AtEachMoment s0 s1 P
-    staged_moment =
-        moved_on s0 s0 s1 (after_write (end + 1) (staged one) s0.now) P before first (λ image left. behind_gate (length (staged one)) image (of_write (end + 1) (staged one) s0.now image (omega (arith, long)) rest.settled left))
+    staged_moment = moved_on s0 s0 s1 c1 P before first (λ image left. behind_gate image left)
 
     pub sync_failed : (s2 : Story) → s2 ≡ s1 → AtEachMoment s0 s2 P
     sync_failed s2 same = rested s0 s1 s2 P staged_moment same
@@ -87,11 +106,11 @@ module _ (disk : DiskState) (end : ℕ) (one : List ℕ) (payloads : List (List 
       at_gate : (image : List ℕ) → DiffersWithin end 1 s2.now.bytes image → P image
       at_gate image differs =
           let whole = rest_stays front end rest.place gate (body one ++ 0 ∷ tail) image (subst (λ (l : List ℕ). DiffersWithin end 1 l image) bytes_2 differs) in
-          subst P (sym whole) (either payloads one (get_or image end 0) tail rest.log.sized sized)
+          subst P (sym whole) (either head payloads one (get_or image end 0) tail rest.log.sized sized)
 
       pub durable_moment : AtEachMoment s0 s2 P
       durable_moment =
-          moved_on s0 s1 s2 (after_sync s1.now) P staged_moment second (λ image left. subst P (sym (only_synced s1.now image left ∙ bytes_1)) (either payloads one gate tail rest.log.sized sized))
+          moved_on s0 s1 s2 (after_sync s1.now) P staged_moment second (λ image left. subst P (sym (only_synced s1.now image left ∙ bytes_1)) (either head payloads one gate tail rest.log.sized sized))
 
       pub gate_failed : (s3 : Story) → TearsAtMost end 1 s2 s3 → AtEachMoment s0 s3 P
       gate_failed s3 failed = torn_on s0 s2 s3 end 1 P durable_moment failed (λ m less torn image left. at_gate image (of_torn_write end m 1 s2.now s3.now image less settled_2 torn left))
@@ -103,34 +122,33 @@ module _ (disk : DiskState) (end : ℕ) (one : List ℕ) (payloads : List (List 
         pub last_sync_failed : (s4 : Story) → s4 ≡ s3 → AtEachMoment s0 s4 P
         last_sync_failed s4 same = rested s0 s3 s4 P open_moment same
 
-        log_3 : IsLog s3.now.bytes (payloads ++ one ∷ [])
-        log_3 =
+        tail_3 : IsTail head s3.now.bytes (payloads ++ one ∷ [])
+        tail_3 =
             let is = ap (λ (s : Story). s.now.bytes) third ∙ ap (overwritten end (1 ∷ [])) bytes_2 ∙ written_over front end rest.place gate 1 (body one ++ 0 ∷ tail)
-            ∙ ap (λ (l : List ℕ). header ++ l) (sym (append_assoc (records payloads) (1 ∷ body one) (0 ∷ tail)) ∙ ap (λ (l : List ℕ). l ++ 0 ∷ tail) (sym (records-push payloads one))) in
+            ∙ opened head payloads one 0 tail in
             record { gate = 0; rest = tail; shut = omega arith; is = is; sized = sized-push payloads one rest.log.sized sized }
 
         module _ (s4 : Story) (fourth : s4 ≡ moved (after_sync s3.now) s3) where
           pub appended_moment : AtEachMoment s0 s4 P
-          appended_moment = moved_on s0 s3 s4 (after_sync s3.now) P open_moment fourth (λ image left. inr (subst (λ (l : List ℕ). IsLog l (payloads ++ one ∷ [])) (sym (only_synced s3.now image left)) log_3))
+          appended_moment = moved_on s0 s3 s4 (after_sync s3.now) P open_moment fourth (λ image left. inr (subst (λ (l : List ℕ). IsTail head l (payloads ++ one ∷ [])) (sym (only_synced s3.now image left)) tail_3))
 
-          pub rests_again : (now : DiskState) → now.story ≡ s4 → IsTrue now.tells → AtRest now (end + (5 + length one)) (payloads ++ one ∷ [])
-          rests_again now is told = record {
-            tells = told;
-            settled = subst (λ (s : Story). IsSettled s.now) (sym (is ∙ fourth)) (synced s3.now);
-            log = subst (λ (l : List ℕ). IsLog l (payloads ++ one ∷ [])) (sym (ap (λ (s : Story). s.now.bytes) (is ∙ fourth))) log_3;
-            place = omega (arith, rest.place, end-push payloads one);
-          }
+          pub rests_again : (now : DiskState) → now.story ≡ s4 → IsTrue now.tells → RestsBehind head now (end + (5 + length one)) (payloads ++ one ∷ [])
+          rests_again now is told =
+              let all = is ∙ fourth in
+              let tail_4 = subst (λ (l : List ℕ). IsTail head l (payloads ++ one ∷ [])) (sym (ap (λ (s : Story). s.now.bytes) all)) tail_3 in
+              let there : end + (5 + length one) ≡ tail_end head (payloads ++ one ∷ []) = omega (arith, rest.place, tail-push head payloads one) in
+              settled_rests head now (end + (5 + length one)) (payloads ++ one ∷ []) told (subst (λ (s : Story). IsSettled s.now) (sym all) (synced s3.now)) tail_4 there
 
 -- the first write and its sync, stopped on the way
-pub staging_stopped : (disk : DiskState) (end : ℕ) (one : List ℕ) (payloads : List (List ℕ)) (rest : AtRest disk end payloads) (sized : IsSized one) (s1 : Story)
-    → TearsAtMost (end + 1) (length (staged one)) disk.story s1 ⊎ (s1 ≡ moved (after_write (end + 1) (staged one) disk.story.now) disk.story) → AtEachMoment disk.story s1 (IsBeforeOrAfter payloads one)
-staging_stopped disk end one payloads rest sized s1 stopped = ⊎_elim
-    (λ torn. staging_failed disk end one payloads rest sized s1 torn)
-    (λ wrote. sync_failed disk end one payloads rest sized (moved (after_write (end + 1) (staged one) disk.story.now) disk.story) refl s1 wrote)
+pub staging_stopped : (head : List ℕ) (disk : DiskState) (end : ℕ) (one : List ℕ) (payloads : List (List ℕ)) (rest : RestsBehind head disk end payloads) (sized : IsSized one) (s1 : Story)
+    → TearsAtMost (end + 1) (length (staged one)) disk.story s1 ⊎ (s1 ≡ moved (after_write (end + 1) (staged one) disk.story.now) disk.story) → AtEachMoment disk.story s1 (IsTailWith head payloads one)
+staging_stopped head disk end one payloads rest sized s1 stopped = ⊎_elim
+    (λ torn. staging_failed head disk end one payloads rest sized s1 torn)
+    (λ wrote. sync_failed head disk end one payloads rest sized (moved (after_write (end + 1) (staged one) disk.story.now) disk.story) refl s1 wrote)
     stopped
 
 -- behind the first sync
-module _ (disk : DiskState) (end : ℕ) (one : List ℕ) (payloads : List (List ℕ)) (rest : AtRest disk end payloads) (sized : IsSized one) (s2 : Story) (durable : s2 ≡ synced_write (end + 1) (staged one) disk.story) where
+module _ (head : List ℕ) (disk : DiskState) (end : ℕ) (one : List ℕ) (payloads : List (List ℕ)) (rest : RestsBehind head disk end payloads) (sized : IsSized one) (s2 : Story) (durable : s2 ≡ synced_write (end + 1) (staged one) disk.story) where
   abbrev mid : Story
   mid = moved (after_write (end + 1) (staged one) disk.story.now) disk.story
 
@@ -138,20 +156,20 @@ module _ (disk : DiskState) (end : ℕ) (one : List ℕ) (payloads : List (List 
   last = moved (after_write end (1 ∷ []) s2.now) s2
 
   pub place_of_gate : end ≤ length s2.now.bytes
-  place_of_gate = gate_is_within disk end one payloads rest sized mid refl s2 durable
+  place_of_gate = gate_is_within head disk end one payloads rest sized mid refl s2 durable
 
   -- the second write and its sync, stopped on the way or not
-  pub opening_stopped : (s4 : Story) → TearsAtMost end 1 s2 s4 ⊎ (s4 ≡ last) → AtEachMoment disk.story s4 (IsBeforeOrAfter payloads one)
+  pub opening_stopped : (s4 : Story) → TearsAtMost end 1 s2 s4 ⊎ (s4 ≡ last) → AtEachMoment disk.story s4 (IsTailWith head payloads one)
   opening_stopped s4 stopped = ⊎_elim
-      (λ torn. gate_failed disk end one payloads rest sized mid refl s2 durable s4 torn)
-      (λ wrote. last_sync_failed disk end one payloads rest sized mid refl s2 durable last refl s4 wrote)
+      (λ torn. gate_failed head disk end one payloads rest sized mid refl s2 durable s4 torn)
+      (λ wrote. last_sync_failed head disk end one payloads rest sized mid refl s2 durable last refl s4 wrote)
       stopped
 
-  pub opening_done : (s4 : Story) → s4 ≡ synced_write end (1 ∷ []) s2 → AtEachMoment disk.story s4 (IsBeforeOrAfter payloads one)
-  opening_done s4 done = appended_moment disk end one payloads rest sized mid refl s2 durable last refl s4 done
+  pub opening_done : (s4 : Story) → s4 ≡ synced_write end (1 ∷ []) s2 → AtEachMoment disk.story s4 (IsTailWith head payloads one)
+  opening_done s4 done = appended_moment head disk end one payloads rest sized mid refl s2 durable last refl s4 done
 
-  pub log_again : (now : DiskState) → now.story ≡ synced_write end (1 ∷ []) s2 → IsTrue now.tells → AtRest now (end + (5 + length one)) (payloads ++ one ∷ [])
-  log_again now done told = rests_again disk end one payloads rest sized mid refl s2 durable last refl now.story done now refl told
+  pub log_again : (now : DiskState) → now.story ≡ synced_write end (1 ∷ []) s2 → IsTrue now.tells → RestsBehind head now (end + (5 + length one)) (payloads ++ one ∷ [])
+  log_again now done told = rests_again head disk end one payloads rest sized mid refl s2 durable last refl now.story done now refl told
 
 -- what a call answers
 pub was_ok : {T E : Type 0} (result : Result T E) (A : Type 0) → is_err result ≡ false → OnOk result A → A

@@ -7,19 +7,19 @@ use Rattle.gate_log.specs.Damage.{told_length, is_whole, IsCutOff, IsCutOffAt, I
 use Rattle.gate_log.proofs.Grammar.{is_there, payload_is, behind_is}
 
 -- the bytes begin with a whole record
-abbrev begins : List ℕ → Bool
+abbrev pub begins : List ℕ → Bool
 begins [] = false
 begins (gate ∷ rest) = gate == 1 && is_whole rest
 
 -- a record at the front of the same bytes is the same
-same_record : (a b x y : List ℕ) → IsSized a → IsSized b → body a ++ x ≡ body b ++ y → (a ≡ b) × (x ≡ y)
+pub same_record : (a b x y : List ℕ) → IsSized a → IsSized b → body a ++ x ≡ body b ++ y → (a ≡ b) × (x ≡ y)
 same_record a b x y a_sized b_sized is =
     let payload : a ≡ b = sym (payload_is a x a_sized) ∙ ap (λ (l : List ℕ). take (told_length l) (drop 4 l)) is ∙ payload_is b y b_sized in
     let behind : x ≡ y = sym (behind_is a x a_sized) ∙ ap (λ (l : List ℕ). drop (4 + told_length l) l) is ∙ behind_is b y b_sized in
     (payload, behind)
 
 -- after all whole records
-same_records : (xs ys : List (List ℕ)) (s t : List ℕ) → AreSized xs → AreSized ys → begins s ≡ false → begins t ≡ false → records xs ++ s ≡ records ys ++ t → (xs ≡ ys) × (s ≡ t)
+pub same_records : (xs ys : List (List ℕ)) (s t : List ℕ) → AreSized xs → AreSized ys → begins s ≡ false → begins t ≡ false → records xs ++ s ≡ records ys ++ t → (xs ≡ ys) × (s ≡ t)
 same_records [] [] s t xs_sized ys_sized s_ends t_ends is = (refl, is)
 same_records [] (y ∷ ys) s t xs_sized ys_sized s_ends t_ends is = absurd (false≢true (sym s_ends ∙ ap begins (is ∙ ap (λ (l : List ℕ). 1 ∷ l) (append_assoc (body y) (records ys) t)) ∙ is_there y (records ys ++ t) ys_sized.0))
 same_records (x ∷ xs) [] s t xs_sized ys_sized s_ends t_ends is = absurd (false≢true (sym t_ends ∙ ap begins (sym is ∙ ap (λ (l : List ℕ). 1 ∷ l) (append_assoc (body x) (records xs) s)) ∙ is_there x (records xs ++ s) xs_sized.0))
@@ -29,10 +29,10 @@ same_records (x ∷ xs) (y ∷ ys) s t xs_sized ys_sized s_ends t_ends is =
     let more = same_records xs ys s t xs_sized.1 ys_sized.1 s_ends t_ends one.1 in
     (λ i. one.0 i ∷ more.0 i, more.1)
 
-shut_gate : (gate : ℕ) (rest : List ℕ) → gate ≢ 1 → begins (gate ∷ rest) ≡ false
+pub shut_gate : (gate : ℕ) (rest : List ℕ) → gate ≢ 1 → begins (gate ∷ rest) ≡ false
 shut_gate gate rest shut = grind (arith, nat_tests)
 
-cut_off : (bytes : List ℕ) → IsCutOff bytes → begins bytes ≡ false
+pub cut_off : (bytes : List ℕ) → IsCutOff bytes → begins bytes ≡ false
 cut_off bytes cut = ⊎_elim (λ none. ap begins none) (λ half. ap begins half.1 ∙ half.2) cut
 
 -- without the header, that is the same
@@ -47,7 +47,7 @@ has_header : (bytes rest : List ℕ) → bytes ≡ header ++ rest → take 8 byt
 has_header bytes rest is = ap (take 8) is
 
 -- a gate that ends a log isn't cut off
-not_cut : (gate : ℕ) (rest tail : List ℕ) → gate ≢ 1 → gate ∷ rest ≡ tail → IsCutOff tail → ⊥
+pub not_cut : (gate : ℕ) (rest tail : List ℕ) → gate ≢ 1 → gate ∷ rest ≡ tail → IsCutOff tail → ⊥
 not_cut gate rest tail shut is cut = ⊎_elim (λ none. empty (is ∙ none)) (λ half. shut (first (is ∙ half.1))) cut
   where
     empty : gate ∷ rest ≡ [] → ⊥

@@ -1,8 +1,8 @@
 -- A log between two calls.
-use Rattle.std.specs.Prelude.{◌≡◌, ℕ, ◌≤◌, List, [], Option, IsTrue}
+use Rattle.std.specs.Prelude.{◌≡◌, ℕ, ◌<◌, ◌≤◌, List, [], length, Option, IsTrue}
 use Rattle.disk_core.specs.Images.{IsSettled, after_write, after_sync}
 use Rattle.disk_core.specs.States.{Story, DiskState, fewer, moved}
-use Rattle.gate_log.specs.Log.{IsLog, end_of}
+use Rattle.gate_log.specs.Log.{IsLog, IsTail, end_of, tail_end}
 
 -- The disk tells what it holds, all of it is durable, and it is a log of these payloads, whose closed gate stands at `end`.
 pub record AtRest (disk : DiskState) (end : ℕ) (payloads : List (List ℕ)) : Type 0 where
@@ -10,6 +10,15 @@ pub record AtRest (disk : DiskState) (end : ℕ) (payloads : List (List ℕ)) : 
   pub settled : IsSettled disk.story.now
   pub log : IsLog disk.story.now.bytes payloads
   pub place : end ≡ end_of payloads
+
+-- The disk tells what it holds. Behind this front stand the records of these payloads, and all up to their closed gate is durable, whatever a crash leaves behind it.
+pub record RestsBehind (front : List ℕ) (disk : DiskState) (end : ℕ) (payloads : List (List ℕ)) : Type 0 where
+  pub tells : IsTrue disk.tells
+  pub unwritten : disk.story.now.written ≡ []
+  pub durable : end < disk.story.now.least
+  pub whole : disk.story.now.least ≤ length disk.story.now.bytes
+  pub log : IsTail front disk.story.now.bytes payloads
+  pub place : end ≡ tail_end front payloads
 
 -- it is a log without a record, whose closed gate stands behind the header
 abbrev pub IsEmptyLog : DiskState → Type 0

@@ -2,8 +2,9 @@
 ghost use Rattle.std.specs.Prelude.{◌≡◌, ◌≢◌, ◌⊎◌, ◌+◌, ◌<◌, ◌≤◌, ◌^◌, ◌++◌, [], ◌∷◌, List, ℕ, length, IsTrue, Some, Err, IfOk, OnOk, OnErr};
 ghost use Rattle.disk_core.specs.States.{GoesOn, Fails, IsWithin, Writes, MayTear, Syncs, Rests, bytes_of, fewer, Spared};
 ghost use Rattle.disk_core.specs.Moments.{AtEachMoment};
-ghost use Rattle.gate_log.specs.Log.{IsBeforeOrAfter};
-ghost use Rattle.gate_log.specs.Rest.{AtRest, Lowers, WritesDurably};
+ghost use Rattle.disk_core.specs.Images.{IsSettled};
+ghost use Rattle.gate_log.specs.Log.{IsTailWith};
+ghost use Rattle.gate_log.specs.Rest.{RestsBehind, Lowers, WritesDurably};
 
 use crate::OpenError;
 use disk_core::{Disk, Failed};
@@ -35,17 +36,26 @@ fn write_durable<D: Disk>(
     Ok(())
 }
 
-// Writes the record behind the closed gate, with a new closed gate behind it, and opens its gate once that is durable.
-pub(crate) fn write_record<D: Disk>(disk: &mut D, end: u64, payload: &[u8]) -> Result<(), Failed>
+/// Appends a record to the tail whose closed gate stands at `end`, whatever stands in front of it: writes it behind that
+/// gate, with a new closed gate behind it, and opens its gate once that is durable. Makes four calls of the disk, and
+/// takes no memory.
+///
+/// # Errors
+///
+/// `Failed` where the disk fails. A crash leaves the tail before or that with the record.
+pub fn write_record<D: Disk>(disk: &mut D, end: u64, payload: &[u8]) -> Result<(), Failed>
     requires some { 1 ≤ length payload.now }
     requires small { length payload.now < 2 ^ 32 }
     requires room { end + 6 + length payload.now ≤ (D.state disk.old).room }
-    requires at_rest { IsTrue (D.state disk.old).tells → (payloads : List (List ℕ))
-        × AtRest (D.state disk.old) end payloads }
-    ensures appended { OnOk result ((payloads : List (List ℕ)) → AtRest (D.state disk.old) end payloads
-        → AtRest (D.state disk.new) (end + (5 + length payload.now)) (payloads ++ payload.now ∷ [])) }
-    ensures any_moment { (payloads : List (List ℕ)) → AtRest (D.state disk.old) end payloads
-        → AtEachMoment (D.state disk.old).story (D.state disk.new).story (IsBeforeOrAfter payloads payload.now) }
+    requires at_rest { IsTrue (D.state disk.old).tells → (front : List ℕ) × (payloads : List (List ℕ))
+        × RestsBehind front (D.state disk.old) end payloads }
+    ensures appended { OnOk result ((front : List ℕ) (payloads : List (List ℕ))
+        → RestsBehind front (D.state disk.old) end payloads
+        → RestsBehind front (D.state disk.new) (end + (5 + length payload.now)) (payloads ++ payload.now ∷ [])) }
+    ensures settled { OnOk result (IsTrue (D.state disk.old).tells → IsSettled (D.state disk.new).story.now) }
+    ensures any_moment { (front : List ℕ) (payloads : List (List ℕ))
+        → RestsBehind front (D.state disk.old) end payloads
+        → AtEachMoment (D.state disk.old).story (D.state disk.new).story (IsTailWith front payloads payload.now) }
     ensures goes_on { GoesOn (D.state disk.old) (D.state disk.new) }
     ensures failed { OnErr result (Fails (D.state disk.old) (D.state disk.new)) }
     ensures left { Lowers 4 (D.state disk.old).left (D.state disk.new).left }
@@ -63,8 +73,12 @@ fn zeros(alloc: Global, count: usize) -> Result<Vec<u8>, AllocError>
     Ok(vec![in alloc; 0; count]?)
 }
 
-// Makes what the disk holds durable, and reads all of it.
-pub(crate) fn read_durable<D: Disk>(alloc: Global, disk: &mut D) -> Result<Vec<u8>, OpenError>
+/// Makes what the disk holds durable, and reads all of it, by three calls of the disk.
+///
+/// # Errors
+///
+/// `Failed` where the disk fails, and `NoMemory` where its bytes don't fit the memory.
+pub fn read_durable<D: Disk>(alloc: Global, disk: &mut D) -> Result<Vec<u8>, OpenError>
     ensures bytes { IfOk result (λ bytes. IsTrue (D.state disk.old).tells → bytes.items ≡ bytes_of (D.state disk.old)) }
     ensures short { IfOk result (λ bytes. length bytes.items ≤ (D.state disk.old).room) }
     ensures synced { OnOk result (Syncs (D.state disk.old) (D.state disk.new)) }

@@ -9,8 +9,10 @@ mod log;
 mod payloads;
 mod scan;
 
+pub use append::{read_durable, write_record};
 pub use empty::format;
 pub use error::{AppendError, OpenError};
 pub use laws::{law_at_rest, law_log, law_opening};
 pub use log::GateLog;
 pub use payloads::Payloads;
+pub use scan::{find_gate_from, whole_payload};

@@ -1,0 +1,11 @@
+pub mod Lists
+pub mod Holds
+pub mod Formatted
+pub mod Calls
+pub mod Switching
+pub mod Items
+pub mod Finding
+pub mod Walking
+pub mod Unique
+pub mod Opening
+pub mod Sizes
