@@ -9,3 +9,4 @@ pub mod Replacing
 pub mod Seeing
 pub mod Slots
 pub mod Steps
+pub mod Condensing

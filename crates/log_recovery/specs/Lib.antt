@@ -6,3 +6,4 @@ pub mod Rising
 pub mod FittingLaws
 pub mod RisingLaws
 pub mod Told
+pub mod Condensed

@@ -12,5 +12,5 @@ mod vectors;
 mod waiting;
 
 pub use fitting::unfit;
-pub use laws::law_fitting;
+pub use laws::{law_condense, law_fitting};
 pub use recovery::{Rebuilt, Recovery, rebuild};
