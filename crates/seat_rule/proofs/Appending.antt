@@ -9,17 +9,17 @@ use Rattle.atomic_table.specs.Table.{Me, Allows, keeps}
 use Rattle.seat_rule.specs.declared.view.Noted.{Noted}
 use Rattle.seat_rule.specs.declared.view.View.{View}
 use Rattle.seat_rule.specs.Lists.{has, at, cite, lens, total, grown}
-use Rattle.seat_rule.specs.Views.{past, noting}
+use Rattle.seat_rule.specs.Views.{past, noting, IsNoted}
 use Rattle.seat_rule.specs.Notes.{AllBelow, Knows, IsClosed, IsStamped, with_note}
-use Rattle.seat_rule.specs.Laws.{MayAdd}
+use Rattle.seat_rule.specs.Laws.{MayNote}
 use Rattle.seat_rule.specs.Kept.{Fits, Kept}
 use Rattle.seat_rule.proofs.Lists.{put_here, put_else, grown_here, grown_else, cite_lens, at_last_is, total_grown}
 use Rattle.seat_rule.proofs.Fronts.{below_one, grown_front, put_same, bears_one, knows_all, prefix_length}
 use Rattle.seat_rule.proofs.Seating.{view_set}
 
 module _ {T : Type 0} (law : (ℕ → List (Noted T)) → Type 0) (n : ℕ) where
-  abbrev pub Added : ℕ → Noted T → Me ℕ (View T) → ℕ → Me ℕ (View T) → Type 0
-  Added p e v k w = (k ≡ length (at v.0.past.lists p)) × (w ≡ (noting v.0 p e, v.1))
+  abbrev pub Added : (Noted T → Type 0) → ℕ → Me ℕ (View T) → ℕ → Me ℕ (View T) → Type 0
+  Added like p v k w = (k ≡ length (at v.0.past.lists p)) × IsNoted like p v w
 
   module _ (logs : ℕ → List (Noted T)) (count : ℕ) (writer holder : ℕ → ℕ) (id p : ℕ) (e : Noted T) where
     abbrev longer_log : ℕ → List (Noted T)
@@ -96,8 +96,9 @@ module _ {T : Type 0} (law : (ℕ → List (Noted T)) → Type 0) (n : ℕ) wher
             (λ (h : q ≢ p). old q (subst (λ l. get_elem? l i ≡ some x) (grown_else ls p q e h) g))
             (cases_eq q p)
 
-  pub appends : (slots id p : ℕ) (e : Noted T) (me : Me ℕ (View T)) → p < n → has me.0.past.writes p ≡ true → has me.0.past.numbers e.by ≡ true → e.cites ≡ lens me.0.past.lists → e.stamp ≤ total me.0.past.lists + 1 → MayAdd law me.0.past p e → length (at me.0.past.lists p) + 1 < 2 ^ 64 → Allows (Kept law n) slots id me p (λ k. (k + 1) % 2 ^ 64) (Added p e me)
-  appends slots id p e me small writes held cites low may room s kept hl at_id below =
+  pub appends : (like : Noted T → Type 0) (slots id p : ℕ) (me : Me ℕ (View T)) → p < n → has me.0.past.writes p ≡ true → MayNote law like me.0.past p → length (at me.0.past.lists p) + 1 < 2 ^ 64 → Allows (Kept law n) slots id me p (λ k. (k + 1) % 2 ^ 64) (Added like p me)
+  appends like slots id p me small writes found room s kept hl at_id below =
+      let e = found.note in
       let mine = kept.each id me.0 at_id in
       let whole = mine.whole p writes in
       let w = noting me.0 p e in
@@ -108,7 +109,7 @@ module _ {T : Type 0} (law : (ℕ → List (Noted T)) → Type 0) (n : ℕ) wher
         tt,
         record {
           logs = longer_log kept.logs kept.count kept.writer kept.holder id p e;
-          lawful = may kept.logs kept.lawful mine.front whole.1;
+          lawful = found.may kept.logs kept.lawful mine.front whole.1;
           count = kept.count;
           writer = kept.writer;
           holder = kept.holder;
@@ -117,11 +118,11 @@ module _ {T : Type 0} (law : (ℕ → List (Noted T)) → Type 0) (n : ℕ) wher
               (λ q a l. get_or-set_other s.words p q ((slice_index s.words p + 1) % 2 ^ 64) 0 a ∙ kept.words q l);
           last = get_or-set_other s.words p n ((slice_index s.words p + 1) % 2 ^ 64) 0 (λ h. omega (arith, h)) ∙ kept.last;
           size = length-set s.words p ((slice_index s.words p + 1) % 2 ^ 64) ∙ kept.size;
-          bears = at_log kept.logs kept.count kept.writer kept.holder id p e (λ q l. AllBelow kept.count l) (below_one kept.count (kept.logs p) e (kept.bears p) (mine.holds e.by held).1) (λ q _. kept.bears q);
+          bears = at_log kept.logs kept.count kept.writer kept.holder id p e (λ q l. AllBelow kept.count l) (below_one kept.count (kept.logs p) e (kept.bears p) (mine.holds e.by found.holder).1) (λ q _. kept.bears q);
           each = view_set (λ j u. Fits n (longer_log kept.logs kept.count kept.writer kept.holder id p e) kept.count kept.writer kept.holder j u) s.views id w
-              (λ j u a g. step_else kept.logs kept.count kept.writer kept.holder id p e j u a whole.0 (mine.holds e.by held).0 (kept.each j u g))
-              (step_here kept.logs kept.count kept.writer kept.holder id p e me.0 writes cites low mine);
+              (λ j u a g. step_else kept.logs kept.count kept.writer kept.holder id p e j u a whole.0 (mine.holds e.by found.holder).0 (kept.each j u g))
+              (step_here kept.logs kept.count kept.writer kept.holder id p e me.0 writes found.cites found.stamp mine);
         },
-        (kept.words p small ∙ ap length (sym whole.1), refl),
+        (kept.words p small ∙ ap length (sym whole.1), record { note = e; is = found.is; added = refl }),
       )
   -- a view that only reads

@@ -1,5 +1,5 @@
 -- What seats have seen and may do, and what steps make of it.
-use Rattle.std.specs.Prelude.{ℕ, ◌+◌, List, [], ◌∷◌, ◌++◌, max}
+use Rattle.std.specs.Prelude.{◌≡◌, ℕ, ◌+◌, List, [], ◌∷◌, ◌++◌, max}
 use Rattle.seat_rule.specs.declared.view.Noted.{Noted}
 use Rattle.seat_rule.specs.declared.view.Past.{Past}
 use Rattle.seat_rule.specs.declared.view.View.{View}
@@ -24,6 +24,12 @@ module _ {T : Type 0} where
   -- a step of p more
   abbrev pub noting : View T → ℕ → Noted T → View T
   noting v p e = settled (past (grown v.past.lists p e) v.past.numbers v.past.writes) v.drawn
+
+  -- a step of p like this was noted, and nothing else changed
+  pub record IsNoted {A : Type 0} (like : Noted T → Type 0) (p : ℕ) (v w : View T × A) : Type 0 where
+    pub note : Noted T
+    pub is : like note
+    pub added : w ≡ (noting v.0 p note, v.1)
 
   -- a number more
   abbrev pub taken : View T → View T
