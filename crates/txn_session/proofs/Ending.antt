@@ -5,7 +5,7 @@ use Rattle.std.proofs.lemmas.Bool.{true≢false}
 use Rattle.std.proofs.lemmas.List.{length-set}
 use Rattle.site_vector.specs.declared.ids.PartId.{PartId}
 use Rattle.site_vector.specs.declared.ids.TxId.{TxId}
-use Rattle.site_vector.specs.Vector.{join, replaced}
+use Rattle.site_vector.specs.Vector.{entry, join, replaced}
 use Rattle.crdt_core.specs.declared.record.Upd.{Upd}
 use Rattle.crdt_core.specs.KindsOf.{Kinds}
 use Rattle.world_model.specs.declared.commit.What.{What}
@@ -23,11 +23,14 @@ use Rattle.clocksi_commit.specs.Commit.{Committing, is_finishing}
 use Rattle.clocksi_commit.specs.Law.{is_nothing}
 use Rattle.txn_session.specs.declared.session.Stage.{Stage}
 use Rattle.txn_session.specs.declared.session.Stage.TheVariants as stage
-use Rattle.txn_session.specs.Calls.{Call, entries, called, IsLegal, IsAllowed, MayCall, GoesOn}
+use Rattle.txn_session.specs.Calls.{Call, entries, called, IsLegal, IsAllowed, MayCall, GoesOn, Stays}
 use Rattle.txn_session.specs.Session.{Txn, Doing, Idle, Open, Ending, SessionState, is_idle, can_abort, updates_of, participants, first_or_zero, committed_so, ending, giving_up, answered, doing_so, depends}
 use Rattle.txn_session.specs.Fields.{doing_in}
 use Rattle.txn_session.specs.Opens.{told_of, dependency_told, stepped_by, stepped, next_said, begun_end, given_up_end}
 use Rattle.txn_session.specs.Holds.{HoldsTxn, HoldsEnd, HoldsGoing, HoldsDoing, Holds, HoldsNumber, AreApart, Mays, Makes, MakesStep, Waits, next_of}
+use Rattle.txn_session.specs.SessionWaits.{StepsLater, StepWaits}
+use Rattle.txn_session.specs.Waits.{is_late, Later}
+use Rattle.txn_session.proofs.Outwaiting.{goes_later, waits_later}
 use Rattle.txn_session.proofs.Frames.{known_next, were_more}
 use Rattle.txn_session.proofs.Opening.{length-join}
 use Rattle.txn_session.proofs.Events.{is_done_step, refused_undone, cut_undone}
@@ -257,6 +260,24 @@ module _ {S E T P : Type 0} (kinds : Kinds S E) (sees : T → P → List (Call E
       let m = ends_makes kinds sees numbers store pass s txn lead commit is legal held run h number (at_site s.site p) ask answer goes refl s.dependency (base_known kinds sees numbers store pass s txn lead commit is legal held run h number (at_site s.site p) ask answer goes refl) h.width (shown_going kinds sees numbers store pass s txn lead commit is legal held run h number (at_site s.site p) ask answer goes refl g) in
       makes_step kinds sees numbers store pass s txn lead commit is legal held run h number (at_site s.site p) ask answer goes refl (what.Prepare p) e (subst (λ x. Makes sees numbers store pass run s x number (at_site s.site p) ask answer) (one_step kinds sees numbers store pass s txn lead commit is legal held run h number (at_site s.site p) ask answer goes refl (what.Prepare p) e refl) m)
 
+module _ {S E T P : Type 0} (kinds : Kinds S E) (sees : T → P → List (Call E) → Type 0) (numbers : P → ℕ → Bool) (store : T) (pass : P) (s : SessionState E) (txn : Txn E) (lead : ℕ) (commit : Committing) (is : s.doing ≡ Ending txn lead commit) (legal : (r : List (Call E)) → sees store pass r → IsLegal kinds s.sites s.parts r) (held : HoldsNumber (numbers pass) s.doing) (run : List (Call E)) (h : Holds s run) (answer : Step) (p : ℕ) where
+  -- and once it waited
+  pub prepare_later : (reads : ℕ → Type 0) → next_of s.doing ≡ what.Prepare p → Later (numbers pass) reads (entry txn.s s.site) txn.by (at_site s.site p) (AskPrepare txn.tx txn.s lead (updates_of s.parts txn.updates p)) (is_late answer) (λ rest. GoesOn sees numbers store pass rest (Some txn.by) (at_site s.site p) (AskPrepare txn.tx txn.s lead (updates_of s.parts txn.updates p)) answer) run
+      → StepsLater sees numbers reads store pass run s (stepped s answer) answer s.doing (next_of s.doing)
+  prepare_later reads e x =
+      let ask : Ask E = AskPrepare txn.tx txn.s lead (updates_of s.parts txn.updates p) in
+      let both : ◌≡◌ {A = Doing E × What} (s.doing, next_of s.doing) (Ending txn lead commit, what.Prepare p) = (λ i. (is i, e i)) in
+      subst (λ (w : Doing E × What). StepsLater sees numbers reads store pass run s (stepped s answer) answer w.0 w.1) (sym both)
+      (goes_later kinds sees numbers store pass s legal held run h reads (entry txn.s s.site) txn.by (at_site s.site p) ask (is_late answer) (Some txn.by) answer (λ rest. MakesStep sees numbers store pass rest s (stepped s answer) answer (Ending txn lead commit) (what.Prepare p))
+      (λ rest hr goes. subst (λ (w : Doing E × What). MakesStep sees numbers store pass rest s (stepped s answer) answer w.0 w.1) both (prepare_makes kinds sees numbers store pass s txn lead commit is legal held rest hr answer p e goes))
+      x)
+
+  pub prepare_waits : (reads : ℕ → Type 0) → next_of s.doing ≡ what.Prepare p → Later (numbers pass) reads (entry txn.s s.site) txn.by (at_site s.site p) (AskPrepare txn.tx txn.s lead (updates_of s.parts txn.updates p)) false (λ rest. Stays sees numbers store pass rest) run → StepWaits sees numbers reads store pass run s s s.doing (next_of s.doing)
+  prepare_waits reads e x =
+      let both : ◌≡◌ {A = Doing E × What} (s.doing, next_of s.doing) (Ending txn lead commit, what.Prepare p) = (λ i. (is i, e i)) in
+      subst (λ (w : Doing E × What). StepWaits sees numbers reads store pass run s s w.0 w.1) (sym both) (waits_later kinds sees numbers store pass s legal held run h reads (entry txn.s s.site) txn.by (at_site s.site p) (AskPrepare txn.tx txn.s lead (updates_of s.parts txn.updates p)) x)
+
+module _ {S E T P : Type 0} (kinds : Kinds S E) (sees : T → P → List (Call E) → Type 0) (numbers : P → ℕ → Bool) (store : T) (pass : P) (s : SessionState E) (txn : Txn E) (lead : ℕ) (commit : Committing) (is : s.doing ≡ Ending txn lead commit) (legal : (r : List (Call E)) → sees store pass r → IsLegal kinds s.sites s.parts r) (held : HoldsNumber (numbers pass) s.doing) (run : List (Call E)) (h : Holds s run) (answer : Step) (p : ℕ) where
   pub finish_makes : (c : List ℕ) → next_of s.doing ≡ what.Finish p c → GoesOn sees numbers store pass run None (at_site s.site p) (AskFinish txn.tx c) answer → MakesStep sees numbers store pass run s (stepped s answer) answer s.doing (next_of s.doing)
   finish_makes c e goes =
       let number : Option ℕ = None in
@@ -305,6 +326,14 @@ module _ {E T P : Type 0} (sees : T → P → List (Call E) → Type 0) (numbers
         allowed = subst (λ n. IsAllowed n (parts_of before) run number (at_site s.site part) now) (sym es) (subst (λ n. IsAllowed s.sites n run number (at_site s.site part) now) (sym ep) a);
       } in
       subst (λ (w : PartId × Ask E). MayCall sees numbers (sites_of before) (parts_of before) before given number w.0 w.1) (sym asked_here) good
+
+-- the same of one that waits
+module _ {E T P : Type 0} (sees : T → P → List (Call E) → Type 0) (numbers : P → ℕ → Bool) (sites_of parts_of : T → ℕ) (before : T) (given pass : P) (s : SessionState E) (es : sites_of before ≡ s.sites) (ep : parts_of before ≡ s.parts) (by site part : ℕ) (et : site ≡ s.site) (ask now : Ask E) (ea : ask ≡ now) (reads : ℕ → Type 0) (v : List ℕ) where
+  pub later_here : (late : Bool) (Goes : PartId → Ask E → List (Call E) → Type 0) → ((run : List (Call E)) → sees before given run → IsAllowed (sites_of before) (parts_of before) run (Some by) (record { site = site; part = part }) ask → Later (numbers pass) reads (entry v site) by (record { site = site; part = part }) ask late (Goes (record { site = site; part = part }) ask) run) → (run : List (Call E)) → sees before given run → IsAllowed s.sites s.parts run (Some by) (at_site s.site part) now → Later (numbers pass) reads (entry v s.site) by (at_site s.site part) now late (Goes (at_site s.site part) now) run
+  later_here late Goes f run seen a =
+      let path : ◌≡◌ {A = PartId × Ask E} (record { site = site; part = part }, ask) (at_site s.site part, now) = (λ i. (record { site = et i; part = part }, ea i)) in
+      let g = subst (λ (w : PartId × Ask E). (r : List (Call E)) → sees before given r → IsAllowed (sites_of before) (parts_of before) r (Some by) w.0 w.1 → Later (numbers pass) reads (entry v w.0.site) by w.0 w.1 late (Goes w.0 w.1) r) path f in
+      g run seen (subst (λ n. IsAllowed n (parts_of before) run (Some by) (at_site s.site part) now) (sym es) (subst (λ n. IsAllowed s.sites n run (Some by) (at_site s.site part) now) (sym ep) a))
 
 module _ {E : Type 0} (s : SessionState E) (txn : Txn E) (lead : ℕ) (commit : Committing) (is : s.doing ≡ Ending txn lead commit) (run : List (Call E)) (h : Holds s run) (p : ℕ) where
   ended_by : HoldsTxn s.sites s.parts s.name s.site txn run × HoldsEnd s.site s.parts txn lead commit run

@@ -1,11 +1,14 @@
 pub mod Frames
 pub mod Owning
-mod Results
+pub mod Results
 pub mod Events
-mod Acting
-mod Opening
-mod Updating
-mod Participants
-mod Counting
-mod Steps
-mod Ending
+pub mod Acting
+pub mod Opening
+pub mod Updating
+pub mod Participants
+pub mod Counting
+pub mod Steps
+pub mod Waiting
+pub mod Repeating
+pub mod Outwaiting
+pub mod Ending

@@ -20,6 +20,7 @@ use Rattle.world_model.specs.lines.Places.{IsPlace, home}
 use Rattle.world_model.specs.lines.Lines.{Wish, wish_of}
 use Rattle.world_model.specs.rules.World.{snapshot_of}
 use Rattle.world_model.specs.rules.Lines.{session_of}
+use Rattle.txn_session.specs.Numbers.{IsLeast}
 use Rattle.txn_session.specs.Calls.{Call, entries, called, caller_of, IsLegal, IsAllowed, GoesOn, Stays}
 use Rattle.txn_session.specs.Session.{Txn, Idle, Open, SessionState, doing_so, depends}
 use Rattle.clocksi_commit.specs.Commit.{Committing}
@@ -120,7 +121,7 @@ module _ {E : Type 0} where
     pub begin_allowed : (run : List (Call E)) (at : PartId) → Holds old run → IsAllowed old.sites old.parts run None at (AskBegin old.name (wish_of old.dependency mode))
     begin_allowed run at h = record { may = h.known; mine = tt }
 
-    module _ (store : T) (pass : P) (run : List (Call E)) (at : PartId) (site : old.site ≡ at.site) (legal : (r : List (Call E)) → sees store pass r → IsLegal kinds old.sites old.parts r) (h : Holds old run) (number : ℕ) (answer : Step) (goes : GoesOn sees numbers store pass run (Some number) at (AskBegin old.name (wish_of old.dependency mode)) answer) where
+    module _ (store : T) (pass : P) (run : List (Call E)) (at : PartId) (site : old.site ≡ at.site) (legal : (r : List (Call E)) → sees store pass r → IsLegal kinds old.sites old.parts r) (h : Holds old run) (number : ℕ) (answer : Step) (goes : GoesOn sees numbers store pass run (Some number) at (AskBegin old.name (wish_of old.dependency mode)) answer) (least : IsLeast (numbers pass) number) where
       said : (name : List ℕ) (t : TxId) (s : List ℕ) → answer ≡ step.Began name t s → (name ≡ old.name) × (goes.event ≡ Began old.name (wish_of old.dependency mode) t s)
       said name t s is = began_is (entries (goes.more ++ run)) at goes.event old.name (wish_of old.dependency mode) name t s goes.asked (sym is ∙ goes.shows)
 
@@ -132,7 +133,7 @@ module _ {E : Type 0} where
       began_width name t s is = begun_width kinds old.sites old.parts (goes.more ++ run) goes.by at old.name (wish_of old.dependency mode) t s (legal_begin name t s is)
 
       abbrev as_open : GoesOn sees numbers store pass run None at (AskBegin old.name (wish_of old.dependency mode)) answer
-      as_open = record { more = goes.more; others = goes.others; by = goes.by; held = goes.held; bears = tt; event = goes.event; asked = goes.asked; own_word = goes.own_word; shows = goes.shows; seen = goes.seen }
+      as_open = record { more = goes.more; others = goes.others; by = goes.by; held = goes.held; bears = subst (IsLeast (numbers pass)) (sym goes.bears) least; event = goes.event; asked = goes.asked; own_word = goes.own_word; shows = goes.shows; seen = goes.seen }
 
       pub began_makes : (name : List ℕ) (t : TxId) (s : List ℕ) (new : SessionState E) → answer ≡ step.Began name t s → new ≡ doing_so (depends old (join old.dependency s)) (Open (record { tx = t; s = s; by = number; updates = [] })) → Makes sees numbers store pass run old new None at (AskBegin old.name (wish_of old.dependency mode)) answer
       began_makes name t s new is made =
@@ -170,7 +171,7 @@ module _ {E : Type 0} where
         let k = keeps before store stayed in
         subst (λ n. IsLegal kinds n old.parts r) (k.0 ∙ es) (subst (λ n. IsLegal kinds (sites_of store) n r) (k.1 ∙ ep) (legal store pass r seen))
 
-    module _ (idle : u.doing ≡ Idle) (part number : ℕ) (mode : Mode) (answer : Step) (f : (run : List (Call E)) → sees before given run → IsAllowed (sites_of before) (parts_of before) run None (record { site = u.site; part = part }) (AskBegin u.name (wish_of u.dependency mode)) → GoesOn sees numbers store pass run (Some number) (record { site = u.site; part = part }) (AskBegin u.name (wish_of u.dependency mode)) answer) where
+    module _ (idle : u.doing ≡ Idle) (part number : ℕ) (mode : Mode) (answer : Step) (f : (run : List (Call E)) → sees before given run → IsAllowed (sites_of before) (parts_of before) run None (record { site = u.site; part = part }) (AskBegin u.name (wish_of u.dependency mode)) → GoesOn sees numbers store pass run (Some number) (record { site = u.site; part = part }) (AskBegin u.name (wish_of u.dependency mode)) answer) (least : IsLeast (numbers pass) number) where
       was_idle : old.doing ≡ Idle
       was_idle = subst (λ (w : SessionState E). w.doing ≡ Idle) v idle
 
@@ -182,12 +183,12 @@ module _ {E : Type 0} where
           g run seen (subst (λ n. IsAllowed n (parts_of before) run None (record { site = old.site; part = part }) (AskBegin old.name (wish_of old.dependency mode))) (sym es) (subst (λ n. IsAllowed old.sites n run None (record { site = old.site; part = part }) (AskBegin old.name (wish_of old.dependency mode))) (sym ep) a))
 
       pub open_refused : (run : List (Call E)) → sees before given run → Holds old run → Makes sees numbers store pass run old old None (record { site = old.site; part = part }) (AskBegin old.name (wish_of old.dependency mode)) answer
-      open_refused run seen h = refused_makes kinds sees numbers old was_idle mode store pass run (record { site = old.site; part = part }) refl legal_now h number answer (begin_goes run seen h)
+      open_refused run seen h = refused_makes kinds sees numbers old was_idle mode store pass run (record { site = old.site; part = part }) refl legal_now h number answer (begin_goes run seen h) least
 
       module _ (name : List ℕ) (t : TxId) (s : List ℕ) (is : answer ≡ step.Began name t s) where
         pub open_width : Mays sees numbers before given old → length u.dependency ≡ length s
         open_width m =
-            let w = began_width kinds sees numbers old was_idle mode store pass m.run (record { site = old.site; part = part }) refl legal_now m.holds number answer (begin_goes m.run m.seen m.holds) name t s is in
+            let w = began_width kinds sees numbers old was_idle mode store pass m.run (record { site = old.site; part = part }) refl legal_now m.holds number answer (begin_goes m.run m.seen m.holds) least name t s is in
             ap (λ x. length x.dependency) v ∙ (m.holds.width ∙ sym w)
 
         pub open_made : (d : List ℕ) (us : List (Upd E)) → d ≡ join u.dependency s → us ≡ [] → doing_so (depends u d) (Open (record { tx = t; s = s; by = number; updates = us })) ≡ doing_so (depends old (join old.dependency s)) (Open (record { tx = t; s = s; by = number; updates = [] }))
@@ -196,7 +197,7 @@ module _ {E : Type 0} where
         pub open_began : (d : List ℕ) (us : List (Upd E)) → d ≡ join u.dependency s → us ≡ [] → (run : List (Call E)) → sees before given run → Holds old run → Makes sees numbers store pass run old (doing_so (depends u d) (Open (record { tx = t; s = s; by = number; updates = us }))) None (record { site = old.site; part = part }) (AskBegin old.name (wish_of old.dependency mode)) (step.Began name t s)
         open_began d us ed eu run seen h =
             subst (λ a. Makes sees numbers store pass run old (doing_so (depends u d) (Open (record { tx = t; s = s; by = number; updates = us }))) None (record { site = old.site; part = part }) (AskBegin old.name (wish_of old.dependency mode)) a) is
-            (began_makes kinds sees numbers old was_idle mode store pass run (record { site = old.site; part = part }) refl legal_now h number answer (begin_goes run seen h) name t s (doing_so (depends u d) (Open (record { tx = t; s = s; by = number; updates = us }))) is (open_made d us ed eu))
+            (began_makes kinds sees numbers old was_idle mode store pass run (record { site = old.site; part = part }) refl legal_now h number answer (begin_goes run seen h) least name t s (doing_so (depends u d) (Open (record { tx = t; s = s; by = number; updates = us }))) is (open_made d us ed eu))
 
 -- a step that isn't a begin
 pub not_opened : {E : Type 0} (s : SessionState E) (answer : Step) → ((name : List ℕ) (t : TxId) (v : List ℕ) → answer ≡ step.Began name t v → ⊥) → IsOpened s answer s

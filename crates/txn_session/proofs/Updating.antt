@@ -6,6 +6,7 @@ use Rattle.std.proofs.lemmas.List.{length-append}
 use Rattle.std.proofs.lemmas.List.Elements.{filter-append}
 use Rattle.site_vector.specs.declared.ids.PartId.{PartId}
 use Rattle.site_vector.specs.Ids.{same_part}
+use Rattle.site_vector.specs.Vector.{entry}
 use Rattle.site_vector.specs.Order.{same_tx_refl}
 use Rattle.crdt_core.specs.declared.kind.Kind.{Kind}
 use Rattle.crdt_core.specs.declared.object.Field.{Field}
@@ -22,7 +23,7 @@ use Rattle.world_model.specs.rules.Event.{Ask, AskRead, AskUpdate, Updated}
 use Rattle.world_model.specs.lines.Places.{IsPlace}
 use Rattle.world_model.specs.rules.Plan.{updates_at, update_count}
 use Rattle.world_model.specs.rules.Lines.{session_of, step_shown}
-use Rattle.txn_session.specs.Calls.{Call, entries, called, IsLegal, IsAllowed, MayCall, GoesOn, Changes}
+use Rattle.txn_session.specs.Calls.{Call, entries, called, IsLegal, IsAllowed, MayCall, GoesOn, Changes, Stays}
 use Rattle.txn_session.specs.Session.{Txn, Open, SessionState, doing_so, own_updates, updates_of, is_placed_at, place_in}
 use Rattle.clocksi_commit.specs.Commit.{Committing}
 use Rattle.txn_session.specs.declared.session.Stage.{Stage}
@@ -32,7 +33,10 @@ use Rattle.txn_session.specs.Opens.{with_update, updated, IsUpdated, update_refu
 use Rattle.txn_session.specs.Holds.{HoldsTxn, IsUntried, HoldsDoing, Holds, HoldsNumber, Mays, MakesUpdate, MakesRead, changed_at}
 use Rattle.txn_session.proofs.Frames.{known_next}
 use Rattle.txn_session.proofs.Events.{is_done_step, update_made, update_quiet, none_undone, read_quiet}
+use Rattle.txn_session.specs.SessionWaits.{ReadsLater, ReadWaits, UpdatesLater, UpdateWaits}
+use Rattle.txn_session.specs.Waits.{is_late, Later}
 use Rattle.txn_session.proofs.Acting.{goes_apart, goes_holds, quiet_makes}
+use Rattle.txn_session.proofs.Outwaiting.{goes_later, changes_later, waits_later}
 
 -- an object stands at one of the partitions
 pub place_within : (bucket key : List ℕ) (parts : ℕ) → 1 ≤ parts → (1 ≤ place_of bucket key parts) × (place_of bucket key parts ≤ parts)
@@ -186,6 +190,52 @@ module _ {S E T P : Type 0} (kinds : Kinds S E) (sees : T → P → List (Call E
         let q = read_quiet (entries (goes.more ++ run)) here goes.event txn.tx txn.s o (own_updates txn.updates o) goes.asked in
         subst (MakesRead sees numbers store pass run s s o answer) (sym is_open) (quiet_makes kinds sees numbers store pass s legal held run h (Some txn.by) here (AskRead txn.tx txn.s o (own_updates txn.updates o)) answer goes q)
 
+    -- the same of a read that waits
+    pub read_later : (reads : ℕ → Type 0) (who : List ℕ) → who ≡ s.name → ((r : List (Call E)) → sees store pass r → IsLegal kinds s.sites s.parts r) → HoldsNumber (numbers pass) s.doing → (answer : Step) →
+        ((run : List (Call E)) → sees before given run → IsAllowed (sites_of before) (parts_of before) run (Some txn.by) (record { site = site; part = part }) (AskRead txn.tx txn.s o own) → who ≡ session_of (entries run) txn.tx → Later (numbers pass) reads (entry txn.s site) txn.by (record { site = site; part = part }) (AskRead txn.tx txn.s o own) (is_late answer) (λ rest. GoesOn sees numbers store pass rest (Some txn.by) (record { site = site; part = part }) (AskRead txn.tx txn.s o own) answer) run) →
+        (run : List (Call E)) → sees before given run → Holds s run → ReadsLater sees numbers reads store pass run s s o answer s.doing
+    unfolding here
+    read_later reads who ew legal held answer f run seen h =
+        let t = txn_of run h in
+        let g = subst
+        (λ (w : PartId × List (Upd E)). (r : List (Call E)) → sees before given r → IsAllowed (sites_of before) (parts_of before) r (Some txn.by) w.0 (AskRead txn.tx txn.s o w.1) → who ≡ session_of (entries r) txn.tx → Later (numbers pass) reads (entry txn.s w.0.site) txn.by w.0 (AskRead txn.tx txn.s o w.1) (is_late answer) (λ rest. GoesOn sees numbers store pass rest (Some txn.by) w.0 (AskRead txn.tx txn.s o w.1) answer) r)
+        asked_at
+        f in
+        let x = g run seen (allowed_by run (Some txn.by) here (AskRead txn.tx txn.s o (own_updates txn.updates o)) (read_allowed s txn run t.0 o)) (ew ∙ sym t.0.session) in
+        subst (ReadsLater sees numbers reads store pass run s s o answer) (sym is_open)
+        (goes_later kinds sees numbers store pass s legal held run h reads (entry txn.s s.site) txn.by here (AskRead txn.tx txn.s o (own_updates txn.updates o)) (is_late answer) (Some txn.by) answer (λ rest. MakesRead sees numbers store pass rest s s o answer s.doing)
+        (λ rest hr goes.
+        let q = read_quiet (entries (goes.more ++ rest)) here goes.event txn.tx txn.s o (own_updates txn.updates o) goes.asked in
+        subst (MakesRead sees numbers store pass rest s s o answer) (sym is_open) (quiet_makes kinds sees numbers store pass s legal held rest hr (Some txn.by) here (AskRead txn.tx txn.s o (own_updates txn.updates o)) answer goes q))
+        x)
+
+    pub read_waits : (reads : ℕ → Type 0) (who : List ℕ) → who ≡ s.name → ((r : List (Call E)) → sees store pass r → IsLegal kinds s.sites s.parts r) → HoldsNumber (numbers pass) s.doing →
+        ((run : List (Call E)) → sees before given run → IsAllowed (sites_of before) (parts_of before) run (Some txn.by) (record { site = site; part = part }) (AskRead txn.tx txn.s o own) → who ≡ session_of (entries run) txn.tx → Later (numbers pass) reads (entry txn.s site) txn.by (record { site = site; part = part }) (AskRead txn.tx txn.s o own) false (λ rest. Stays sees numbers store pass rest) run) →
+        (run : List (Call E)) → sees before given run → Holds s run → ReadWaits sees numbers reads store pass run s s o s.doing
+    unfolding here
+    read_waits reads who ew legal held f run seen h =
+        let t = txn_of run h in
+        let g = subst
+        (λ (w : PartId × List (Upd E)). (r : List (Call E)) → sees before given r → IsAllowed (sites_of before) (parts_of before) r (Some txn.by) w.0 (AskRead txn.tx txn.s o w.1) → who ≡ session_of (entries r) txn.tx → Later (numbers pass) reads (entry txn.s w.0.site) txn.by w.0 (AskRead txn.tx txn.s o w.1) false (λ rest. Stays sees numbers store pass rest) r)
+        asked_at
+        f in
+        let x = g run seen (allowed_by run (Some txn.by) here (AskRead txn.tx txn.s o (own_updates txn.updates o)) (read_allowed s txn run t.0 o)) (ew ∙ sym t.0.session) in
+        subst (ReadWaits sees numbers reads store pass run s s o) (sym is_open) (waits_later kinds sees numbers store pass s legal held run h reads (entry txn.s s.site) txn.by here (AskRead txn.tx txn.s o (own_updates txn.updates o)) x)
+
+    -- and what it may be asked
+    pub read_wait_may : (who : List ℕ) → who ≡ s.name → Mays sees numbers before given s → (m : MayCall sees numbers (sites_of before) (parts_of before) before given (Some txn.by) (record { site = site; part = part }) (AskRead txn.tx txn.s o own)) × (who ≡ session_of (entries m.run) txn.tx)
+    unfolding here
+    read_wait_may who ew m =
+        let t = txn_of m.run m.holds in
+        let good : MayCall sees numbers (sites_of before) (parts_of before) before given (Some txn.by) here (AskRead txn.tx txn.s o (own_updates txn.updates o)) = record {
+          place = placed m.run m.holds o;
+          held = held_number m.held;
+          run = m.run;
+          seen = m.seen;
+          allowed = allowed_by m.run (Some txn.by) here (AskRead txn.tx txn.s o (own_updates txn.updates o)) (read_allowed s txn m.run t.0 o);
+        } in
+        subst (λ (w : PartId × List (Upd E)). (k : MayCall sees numbers (sites_of before) (parts_of before) before given (Some txn.by) w.0 (AskRead txn.tx txn.s o w.1)) × (who ≡ session_of (entries k.run) txn.tx)) (sym asked_at) (good, ew ∙ sym t.0.session)
+
     -- what the store tells of the call in a run that allows it
     pub read_tells : (tells : T → T → PartId → Step → Type 0) (who : List ℕ) → who ≡ s.name → (answer : Step) →
         ((run : List (Call E)) → sees before given run → IsAllowed (sites_of before) (parts_of before) run (Some txn.by) (record { site = site; part = part }) (AskRead txn.tx txn.s o own) → who ≡ session_of (entries run) txn.tx → tells before store (record { site = site; part = part }) answer) →
@@ -225,45 +275,38 @@ module _ {S E T P : Type 0} (kinds : Kinds S E) (sees : T → P → List (Call E
           } in
           subst (λ (w : PartId × List (Upd E)). MayCall sees numbers (sites_of before) (parts_of before) before given (Some txn.by) w.0 (AskUpdate txn.tx txn.s o w.1 op)) (sym asked_at) good
 
-      module _ (who : List ℕ) (index : ℕ) (ew : who ≡ s.name) (ei : index ≡ length txn.updates + 1) (legal : (r : List (Call E)) → sees store pass r → IsLegal kinds s.sites s.parts r) (held : HoldsNumber (numbers pass) s.doing) (answer : Step) (made : Option E)
-          (f : (run : List (Call E)) → sees before given run → IsAllowed (sites_of before) (parts_of before) run (Some txn.by) (record { site = site; part = part }) (AskUpdate txn.tx txn.s o own op) → who ≡ session_of (entries run) txn.tx → index ≡ update_count (entries run) txn.tx + 1 → Changes sees numbers store pass run txn.by (record { site = site; part = part }) (AskUpdate txn.tx txn.s o own op) answer made) where
-        changes : (run : List (Call E)) → sees before given run → Holds s run → Changes sees numbers store pass run txn.by here (AskUpdate txn.tx txn.s o (own_updates txn.updates o) op) answer made
-        unfolding here
-        changes run seen h =
-            let t = txn_of run h in
-            let g = subst
-            (λ (w : PartId × List (Upd E)). (r : List (Call E)) → sees before given r → IsAllowed (sites_of before) (parts_of before) r (Some txn.by) w.0 (AskUpdate txn.tx txn.s o w.1 op) → who ≡ session_of (entries r) txn.tx → index ≡ update_count (entries r) txn.tx + 1 → Changes sees numbers store pass r txn.by w.0 (AskUpdate txn.tx txn.s o w.1 op) answer made)
-            asked_at
-            f in
-            g run seen (allowed_by run (Some txn.by) here (AskUpdate txn.tx txn.s o (own_updates txn.updates o) op) (update_allowed s txn run t.0 o op t.1)) (ew ∙ sym t.0.session) (ei ∙ ap (λ n. n + 1) (sym t.0.count))
+      pub update_wait_may : (who : List ℕ) (index : ℕ) → who ≡ s.name → index ≡ length txn.updates + 1 → Mays sees numbers before given s → (m : MayCall sees numbers (sites_of before) (parts_of before) before given (Some txn.by) (record { site = site; part = part }) (AskUpdate txn.tx txn.s o own op)) × (who ≡ session_of (entries m.run) txn.tx) × (index ≡ update_count (entries m.run) txn.tx + 1)
+      unfolding here
+      update_wait_may who index ew ei m =
+          let t = txn_of m.run m.holds in
+          let good : MayCall sees numbers (sites_of before) (parts_of before) before given (Some txn.by) here (AskUpdate txn.tx txn.s o (own_updates txn.updates o) op) = record {
+            place = placed m.run m.holds o;
+            held = held_number m.held;
+            run = m.run;
+            seen = m.seen;
+            allowed = allowed_by m.run (Some txn.by) here (AskUpdate txn.tx txn.s o (own_updates txn.updates o) op) (update_allowed s txn m.run t.0 o op t.1);
+          } in
+          subst (λ (w : PartId × List (Upd E)). (k : MayCall sees numbers (sites_of before) (parts_of before) before given (Some txn.by) w.0 (AskUpdate txn.tx txn.s o w.1 op)) × (who ≡ session_of (entries k.run) txn.tx) × (index ≡ update_count (entries k.run) txn.tx + 1)) (sym asked_at) (good, ew ∙ sym t.0.session, ei ∙ ap (λ n. n + 1) (sym t.0.count))
 
-        -- no effect was made
-        pub unmade_quiet : made ≡ None → (run : List (Call E)) → sees before given run → Holds s run → MakesUpdate sees numbers store pass run s s o op answer s.doing
+      module _ (legal : (r : List (Call E)) → sees store pass r → IsLegal kinds s.sites s.parts r) (held : HoldsNumber (numbers pass) s.doing) (answer : Step) (made : Option E) (run : List (Call E)) (h : Holds s run) (c : Changes sees numbers store pass run txn.by here (AskUpdate txn.tx txn.s o (own_updates txn.updates o) op) answer made) where
+        quiet_at : made ≡ None → MakesUpdate sees numbers store pass run s s o op answer s.doing
         unfolding here
-        unmade_quiet e run seen h =
-            let c = changes run seen h in
+        quiet_at e =
             let q = update_quiet (entries (c.goes.more ++ run)) here c.goes.event txn.tx txn.s o (own_updates txn.updates o) op c.goes.asked (sym e ∙ c.effect) in
             subst (MakesUpdate sees numbers store pass run s s o op answer) (sym is_open) (quiet_makes kinds sees numbers store pass s legal held run h (Some txn.by) here (AskUpdate txn.tx txn.s o (own_updates txn.updates o) op) answer c.goes q)
 
-        pub unmade_same : made ≡ None → Mays sees numbers before given s → IsUpdated s o answer s
-        unfolding here
-        unmade_same e m =
-            let c = changes m.run m.seen m.holds in
-            not_updated s o answer (ap is_done_step c.goes.shows ∙ none_undone (entries (c.goes.more ++ m.run)) here c.goes.event txn.tx txn.s o (own_updates txn.updates o) op c.goes.asked (sym e ∙ c.effect))
+        same_at : made ≡ None → IsUpdated s o answer s
+        same_at e = not_updated s o answer (ap is_done_step c.goes.shows ∙ none_undone (entries (c.goes.more ++ run)) here c.goes.event txn.tx txn.s o (own_updates txn.updates o) op c.goes.asked (sym e ∙ c.effect))
 
         module _ (effect : E) (is : made ≡ Some effect) where
-          pub made_same : Mays sees numbers before given s → IsUpdated s o answer (doing_so s (updated s.doing o effect))
-          unfolding here
-          made_same m =
-              let c = changes m.run m.seen m.holds in
-              let run = c.goes.more ++ m.run in
-              let e = update_made (entries run) here c.goes.event txn.tx txn.s o (own_updates txn.updates o) op effect c.goes.asked (sym is ∙ c.effect) in
-              subst (λ a. IsUpdated s o a (doing_so s (updated s.doing o effect))) (sym (c.goes.shows ∙ ap (step_shown (entries run) here) e.3)) (effect, refl)
+          made_same_at : IsUpdated s o answer (doing_so s (updated s.doing o effect))
+          made_same_at =
+              let e = update_made (entries (c.goes.more ++ run)) here c.goes.event txn.tx txn.s o (own_updates txn.updates o) op effect c.goes.asked (sym is ∙ c.effect) in
+              subst (λ a. IsUpdated s o a (doing_so s (updated s.doing o effect))) (sym (c.goes.shows ∙ ap (step_shown (entries (c.goes.more ++ run)) here) e.3)) (effect, refl)
 
-          pub made_makes : (run : List (Call E)) → sees before given run → Holds s run → MakesUpdate sees numbers store pass run s (doing_so s (updated s.doing o effect)) o op answer s.doing
+          made_at : MakesUpdate sees numbers store pass run s (doing_so s (updated s.doing o effect)) o op answer s.doing
           unfolding here
-          made_makes run seen h =
-              let c = changes run seen h in
+          made_at =
               let base = c.goes.more ++ run in
               let e = update_made (entries base) here c.goes.event txn.tx txn.s o (own_updates txn.updates o) op effect c.goes.asked (sym is ∙ c.effect) in
               let a = goes_apart kinds sees numbers store pass s legal held run h (Some txn.by) here (AskUpdate txn.tx txn.s o (own_updates txn.updates o) op) answer c.goes in
@@ -282,6 +325,79 @@ module _ {S E T P : Type 0} (kinds : Kinds S E) (sees : T → P → List (Call E
                 };
                 held = subst (λ x. HoldsNumber (numbers pass) (updated x o effect)) (sym doing) (subst (HoldsNumber (numbers pass)) doing held);
               })
+
+      module _ (who : List ℕ) (index : ℕ) (ew : who ≡ s.name) (ei : index ≡ length txn.updates + 1) (legal : (r : List (Call E)) → sees store pass r → IsLegal kinds s.sites s.parts r) (held : HoldsNumber (numbers pass) s.doing) where
+        module _ (answer : Step) (made : Option E)
+            (f : (run : List (Call E)) → sees before given run → IsAllowed (sites_of before) (parts_of before) run (Some txn.by) (record { site = site; part = part }) (AskUpdate txn.tx txn.s o own op) → who ≡ session_of (entries run) txn.tx → index ≡ update_count (entries run) txn.tx + 1 → Changes sees numbers store pass run txn.by (record { site = site; part = part }) (AskUpdate txn.tx txn.s o own op) answer made) where
+          changes : (run : List (Call E)) → sees before given run → Holds s run → Changes sees numbers store pass run txn.by here (AskUpdate txn.tx txn.s o (own_updates txn.updates o) op) answer made
+          unfolding here
+          changes run seen h =
+              let t = txn_of run h in
+              let g = subst
+              (λ (w : PartId × List (Upd E)). (r : List (Call E)) → sees before given r → IsAllowed (sites_of before) (parts_of before) r (Some txn.by) w.0 (AskUpdate txn.tx txn.s o w.1 op) → who ≡ session_of (entries r) txn.tx → index ≡ update_count (entries r) txn.tx + 1 → Changes sees numbers store pass r txn.by w.0 (AskUpdate txn.tx txn.s o w.1 op) answer made)
+              asked_at
+              f in
+              g run seen (allowed_by run (Some txn.by) here (AskUpdate txn.tx txn.s o (own_updates txn.updates o) op) (update_allowed s txn run t.0 o op t.1)) (ew ∙ sym t.0.session) (ei ∙ ap (λ n. n + 1) (sym t.0.count))
+
+          -- no effect was made
+          pub unmade_quiet : made ≡ None → (run : List (Call E)) → sees before given run → Holds s run → MakesUpdate sees numbers store pass run s s o op answer s.doing
+          unmade_quiet e run seen h = quiet_at legal held answer made run h (changes run seen h) e
+
+          pub unmade_same : made ≡ None → Mays sees numbers before given s → IsUpdated s o answer s
+          unmade_same e m = same_at legal held answer made m.run m.holds (changes m.run m.seen m.holds) e
+
+          module _ (effect : E) (is : made ≡ Some effect) where
+            pub made_same : Mays sees numbers before given s → IsUpdated s o answer (doing_so s (updated s.doing o effect))
+            made_same m = made_same_at legal held answer made m.run m.holds (changes m.run m.seen m.holds) effect is
+
+            pub made_makes : (run : List (Call E)) → sees before given run → Holds s run → MakesUpdate sees numbers store pass run s (doing_so s (updated s.doing o effect)) o op answer s.doing
+            made_makes run seen h = made_at legal held answer made run h (changes run seen h) effect is
+
+        -- the same of one that waits
+        module _ (reads : ℕ → Type 0) (answer : Step) (made : Option E)
+            (f : (run : List (Call E)) → sees before given run → IsAllowed (sites_of before) (parts_of before) run (Some txn.by) (record { site = site; part = part }) (AskUpdate txn.tx txn.s o own op) → who ≡ session_of (entries run) txn.tx → index ≡ update_count (entries run) txn.tx + 1 → Later (numbers pass) reads (entry txn.s site) txn.by (record { site = site; part = part }) (AskUpdate txn.tx txn.s o own op) (is_late answer) (λ rest. Changes sees numbers store pass rest txn.by (record { site = site; part = part }) (AskUpdate txn.tx txn.s o own op) answer made) run) where
+          changed : (run : List (Call E)) → sees before given run → Holds s run → Later (numbers pass) reads (entry txn.s s.site) txn.by here (AskUpdate txn.tx txn.s o (own_updates txn.updates o) op) (is_late answer) (λ rest. Changes sees numbers store pass rest txn.by here (AskUpdate txn.tx txn.s o (own_updates txn.updates o) op) answer made) run
+          unfolding here
+          changed run seen h =
+              let t = txn_of run h in
+              let g = subst
+              (λ (w : PartId × List (Upd E)). (r : List (Call E)) → sees before given r → IsAllowed (sites_of before) (parts_of before) r (Some txn.by) w.0 (AskUpdate txn.tx txn.s o w.1 op) → who ≡ session_of (entries r) txn.tx → index ≡ update_count (entries r) txn.tx + 1 → Later (numbers pass) reads (entry txn.s w.0.site) txn.by w.0 (AskUpdate txn.tx txn.s o w.1 op) (is_late answer) (λ rest. Changes sees numbers store pass rest txn.by w.0 (AskUpdate txn.tx txn.s o w.1 op) answer made) r)
+              asked_at
+              f in
+              g run seen (allowed_by run (Some txn.by) here (AskUpdate txn.tx txn.s o (own_updates txn.updates o) op) (update_allowed s txn run t.0 o op t.1)) (ew ∙ sym t.0.session) (ei ∙ ap (λ n. n + 1) (sym t.0.count))
+
+          -- what it comes to in each run
+          comes : (Goes : List (Call E) → Type 0) → ((rest : List (Call E)) → Holds s rest → Changes sees numbers store pass rest txn.by here (AskUpdate txn.tx txn.s o (own_updates txn.updates o) op) answer made → Goes rest) → (run : List (Call E)) → sees before given run → Holds s run → Later (numbers pass) reads (entry txn.s s.site) txn.by here (AskUpdate txn.tx txn.s o (own_updates txn.updates o) op) (is_late answer) Goes run
+          unfolding here
+          comes Goes k run seen h = changes_later kinds sees numbers store pass s legal held run h reads (entry txn.s s.site) txn.by here (AskUpdate txn.tx txn.s o (own_updates txn.updates o) op) (is_late answer) txn.by answer made Goes k (changed run seen h)
+
+          pub unmade_later : made ≡ None → (run : List (Call E)) → sees before given run → Holds s run → UpdatesLater sees numbers reads store pass run s s o op answer s.doing
+          unfolding here
+          unmade_later e run seen h = subst (UpdatesLater sees numbers reads store pass run s s o op answer) (sym is_open) (comes (λ rest. MakesUpdate sees numbers store pass rest s s o op answer s.doing) (λ rest hr c. quiet_at legal held answer made rest hr c e) run seen h)
+
+          pub unmade_later_same : made ≡ None → Mays sees numbers before given s → IsUpdated s o answer s
+          unmade_later_same e m = (comes (λ rest. IsUpdated s o answer s) (λ rest hr c. same_at legal held answer made rest hr c e) m.run m.seen m.holds).goes
+
+          module _ (effect : E) (is : made ≡ Some effect) where
+            pub made_later_same : Mays sees numbers before given s → IsUpdated s o answer (doing_so s (updated s.doing o effect))
+            made_later_same m = (comes (λ rest. IsUpdated s o answer (doing_so s (updated s.doing o effect))) (λ rest hr c. made_same_at legal held answer made rest hr c effect is) m.run m.seen m.holds).goes
+
+            pub made_later : (run : List (Call E)) → sees before given run → Holds s run → UpdatesLater sees numbers reads store pass run s (doing_so s (updated s.doing o effect)) o op answer s.doing
+            unfolding here
+            made_later run seen h = subst (UpdatesLater sees numbers reads store pass run s (doing_so s (updated s.doing o effect)) o op answer) (sym is_open) (comes (λ rest. MakesUpdate sees numbers store pass rest s (doing_so s (updated s.doing o effect)) o op answer s.doing) (λ rest hr c. made_at legal held answer made rest hr c effect is) run seen h)
+
+        pub update_waits : (reads : ℕ → Type 0) →
+            ((run : List (Call E)) → sees before given run → IsAllowed (sites_of before) (parts_of before) run (Some txn.by) (record { site = site; part = part }) (AskUpdate txn.tx txn.s o own op) → who ≡ session_of (entries run) txn.tx → index ≡ update_count (entries run) txn.tx + 1 → Later (numbers pass) reads (entry txn.s site) txn.by (record { site = site; part = part }) (AskUpdate txn.tx txn.s o own op) false (λ rest. Stays sees numbers store pass rest) run) →
+            (run : List (Call E)) → sees before given run → Holds s run → UpdateWaits sees numbers reads store pass run s s o op s.doing
+        unfolding here
+        update_waits reads f run seen h =
+            let t = txn_of run h in
+            let g = subst
+            (λ (w : PartId × List (Upd E)). (r : List (Call E)) → sees before given r → IsAllowed (sites_of before) (parts_of before) r (Some txn.by) w.0 (AskUpdate txn.tx txn.s o w.1 op) → who ≡ session_of (entries r) txn.tx → index ≡ update_count (entries r) txn.tx + 1 → Later (numbers pass) reads (entry txn.s w.0.site) txn.by w.0 (AskUpdate txn.tx txn.s o w.1 op) false (λ rest. Stays sees numbers store pass rest) r)
+            asked_at
+            f in
+            let x = g run seen (allowed_by run (Some txn.by) here (AskUpdate txn.tx txn.s o (own_updates txn.updates o) op) (update_allowed s txn run t.0 o op t.1)) (ew ∙ sym t.0.session) (ei ∙ ap (λ n. n + 1) (sym t.0.count)) in
+            subst (UpdateWaits sees numbers reads store pass run s s o op) (sym is_open) (waits_later kinds sees numbers store pass s legal held run h reads (entry txn.s s.site) txn.by here (AskUpdate txn.tx txn.s o (own_updates txn.updates o) op) x)
 
 module _ {E : Type 0} where
   pub is_opened : (too_deep : Kind → List Field → Bool) (o : ObjectId) (op : Op) (u s : SessionState E) → u ≡ s → (k : Stage) (txn : Txn E) (lead : ℕ) (commit : Committing) → u.doing ≡ doing_in k txn lead commit → None ≡ update_refusal too_deep s.doing o op → k ≡ stage.Open

@@ -1,18 +1,27 @@
 -- Calls of a store with their callers' numbers: which may be made, and what each comes to.
 pub use Rattle.world_model.specs.threads.Calls.{Call, entries, called, caller_of, is_update, touches}
-use Rattle.std.specs.Prelude.{◌≡◌, ◌⊎◌, ℕ, Bool, true, false, ◌||◌, List, [], ◌∷◌, ◌++◌, Option, None, Some, IfSome, if◌then◌else◌, Result, Ok, Err, ⊤}
+use Rattle.std.specs.Prelude.{◌≡◌, ◌⊎◌, ℕ, ◌+◌, Bool, true, false, List, [], ◌∷◌, ◌++◌, Option, None, Some, IfSome, Result, Ok, Err, ⊤}
 use Rattle.site_vector.specs.declared.ids.PartId.{PartId}
 use Rattle.site_vector.specs.declared.ids.TxId.{TxId}
-use Rattle.site_vector.specs.Ids.{same_tx}
 use Rattle.crdt_core.specs.KindsOf.{Kinds}
 use Rattle.world_model.specs.declared.step.Step.{Step}
-use Rattle.world_model.specs.rules.Event.{Ask, AskRead, AskUpdate, AskPrepare, AskDecide, AskAbort, Event, Updated, Entry, attempt, is_prepare, is_decide, is_own_abort}
+use Rattle.world_model.specs.declared.step.Step.TheVariants as step
+use Rattle.world_model.specs.rules.Event.{Ask, AskRead, AskUpdate, AskPrepare, AskDecide, AskAbort, Event, Updated, Entry, attempt}
 use Rattle.world_model.specs.rules.Partition.{PartState}
 use Rattle.world_model.specs.lines.Places.{IsPlace}
 use Rattle.world_model.specs.rules.World.{is_begin, begun, IsWorldRun}
 use Rattle.world_model.specs.rules.Lines.{step_shown}
 use Rattle.world_model.specs.rules.Asking as asking
 use Rattle.world_model.specs.rules.Asking.{asked_by, is_own_word}
+use Rattle.txn_session.specs.Numbers.{IsLeast, Bears}
+
+-- the line of a message or report by the number with which it is handed on, in place of its own among its sender's
+abbrev pub handed_as : ℕ → Step → Step
+handed_as number (step.Took own hi) = step.Took number hi
+handed_as number (step.Dup own have) = step.Dup number have
+handed_as number (step.Gap own have) = step.Gap number have
+handed_as number (step.Heard own p stable) = step.Heard number p stable
+handed_as number other = other
 
 module _ {E : Type 0} where
   -- who acts for a transaction bears the number of its begin
@@ -77,7 +86,7 @@ module _ {E : Type 0} where
       pub others : NoneBears (numbers pass) more
       pub by : ℕ
       pub held : numbers pass by ≡ true
-      pub bears : IfSome number (λ n. by ≡ n)
+      pub bears : Bears (numbers pass) number by
       pub event : Event E
       pub asked : asked_by (attempt event) ≡ ask
       pub own_word : is_own_word (attempt event) ≡ true
@@ -95,21 +104,22 @@ module _ {E : Type 0} where
       pub goes : GoesOn store pass run (Some by) at ask answer
       pub effect : made ≡ effect_made goes.event
 
-    -- the run goes on: others acted, and then this was done
-    pub record Did (store : S) (pass : P) (run : List (Call E)) (at : PartId) (event : Event E) : Type 0 where
+    -- the run goes on: others acted, and then this was done. It is the next of its sender's, and is handed on by this number
+    pub record Did (count : List (Entry E) → PartId → ℕ) (numbered : ℕ → ℕ → Type 0) (store : S) (pass : P) (run : List (Call E)) (at : PartId) (event : Event E) (number : ℕ) : Type 0 where
       pub more : List (Call E)
       pub others : NoneBears (numbers pass) more
       pub by : ℕ
-      pub held : numbers pass by ≡ true
+      pub least : IsLeast (numbers pass) by
+      pub named : numbered (count (entries (more ++ run)) at + 1) number
       pub seen : sees store pass (called by at event ∷ (more ++ run))
 
     -- what was asked is done, or a line says why it isn't
-    abbrev pub Does : {A : Type 0} → S → P → List (Call E) → PartId → Ask E → (A → Event E) → Result A Step → Type 0
-    Does store pass run at ask done (Ok x) = Did store pass run at (done x)
-    Does store pass run at ask done (Err line) = GoesOn store pass run None at ask line
+    abbrev pub Does : {A : Type 0} → (List (Entry E) → PartId → ℕ) → (ℕ → ℕ → Type 0) → S → P → List (Call E) → PartId → Ask E → (A → Event E) → Result (A × ℕ) Step → Type 0
+    Does count numbered store pass run at ask done (Ok x) = Did count numbered store pass run at (done x.0) x.1
+    Does count numbered store pass run at ask done (Err line) = GoesOn store pass run None at ask line
 
-    -- what a pass has seen, another has
-    pub record SeesStill (store : S) (pass : P) (run : List (Call E)) : Type 0 where
-      pub whole : List (Call E)
-      pub within : Within run whole
-      pub seen : sees store pass whole
+    -- the run goes on: a message or report was handed on, as its sender's own number has it; the answer has the number that was handed
+    pub record HandsOn (store : S) (pass : P) (run : List (Call E)) (at : PartId) (ask : Ask E) (number : ℕ) (answer : Step) : Type 0 where
+      pub line : Step
+      pub goes : GoesOn store pass run None at ask line
+      pub answers : answer ≡ handed_as number line

@@ -1,6 +1,10 @@
+pub mod Numbers
 pub mod Calls
+pub mod Passes
+pub mod Waits
 pub mod Draft
 pub mod Session
 pub mod Fields
 pub mod Holds
 pub mod Opens
+pub mod SessionWaits

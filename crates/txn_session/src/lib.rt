@@ -2,12 +2,15 @@
 #![tactic(auto)]
 
 mod chosen;
+mod clock;
 mod draft;
 mod error;
 mod phase;
 mod session;
 mod store;
+mod waits;
 
+pub use clock::{Clock, ListClock, SystemClock};
 pub use error::SessionError;
 pub use phase::Phase;
 pub use session::Session;

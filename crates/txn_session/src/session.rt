@@ -9,6 +9,8 @@ ghost use Rattle.world_model.specs.lines.Lines.{wish_of};
 ghost use Rattle.world_model.specs.lines.Places.{IsPlace};
 ghost use Rattle.world_model.specs.rules.Event.{AskBegin};
 
+mod waiting;
+
 use crate::chosen::{first_of, own_of, part_of, participants_of};
 use crate::draft::Draft;
 use crate::{Phase, SessionError, Store};
