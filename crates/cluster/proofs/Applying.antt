@@ -23,6 +23,7 @@ use Rattle.cluster.proofs.Keeping.{post_on}
 use Rattle.txn_session.specs.Calls.{entries}
 use Rattle.cluster.specs.Live.{LiveState, session_in}
 use Rattle.cluster.specs.Reached.{IsBefore, StandsAs, Applies, AppliesLive, FaultsShown, IsReached, IsReachedLive, Reached}
+use Rattle.site_partitions.specs.Sound.{AreUnarmed}
 
 pub map_ok : {A X : Type 0} {P Q : A → Type 0} (r : Result A X) → ((x : A) → P x → Q x) → IfOk r P → IfOk r Q
 map_ok (Ok x) f p = f x p
@@ -60,7 +61,7 @@ module _ {S E D : Type 0} (types : Types S E D) where
           post = subst (λ n. HasPost n new.sites.parts next (entries x.1.reached.calls) w.post) (sym x.1.same.sites_are) (subst (λ n. HasPost w.live.sites.sites n next (entries x.1.reached.calls) w.post) (sym x.1.same.parts_are)
               (post_on w.live.sites.sites w.live.sites.parts run next r.live.calls x.1.reached.calls w.post x.1.keeps x.1.grows r.post));
         },
-        x.2,
+        (x.1.same, x.2),
       )
 
   pub has_cluster_already : (c : LiveState E D) (sites parts : ℕ) (steps : List Step) → steps ≡ step.HasCluster ∷ [] → AppliesLive types c (command.Cluster sites parts) steps c
@@ -78,8 +79,8 @@ module _ {S E D : Type 0} (types : Types S E D) where
     tt,
   )
 
-  pub cluster_made : (w : WholeState E D) (sites parts : ℕ) (steps : List Step) → steps ≡ step.MadeCluster sites parts ∷ [] → w.live.sites.sites ≡ sites → w.live.sites.parts ≡ parts → Reaches types w.live.sites [] → w.live.sessions ≡ [] → w.post ≡ new_post → Applies types None (command.Cluster sites parts) steps (Some w)
-  cluster_made w sites parts steps is es ep r none post = λ number run b.
+  pub cluster_made : (w : WholeState E D) (sites parts : ℕ) (steps : List Step) → steps ≡ step.MadeCluster sites parts ∷ [] → w.live.sites.sites ≡ sites → w.live.sites.parts ≡ parts → Reaches types w.live.sites [] → w.live.sessions ≡ [] → w.post ≡ new_post → AreUnarmed types.state w.live.sites → Applies types None (command.Cluster sites parts) steps (Some w)
+  cluster_made w sites parts steps is es ep r none post unarmed = λ number run b.
       subst (λ l. IsAnswer is_built run (command.Cluster sites parts) l × Reached types (Some w) (answered number (Some (command.Cluster sites parts)) l run) × FaultsShown types None run l (Some w)) (sym is) (
         subst (AnswersBy run (command.Cluster sites parts) (step.MadeCluster sites parts ∷ [])) (sym (none_due (all_met run (command.Cluster sites parts)) (refl, (b.lacks, tt)))) (inl refl),
         record {
@@ -91,7 +92,7 @@ module _ {S E D : Type 0} (types : Types S E D) where
             sees = record { reached = r; one_caller = tt; rooms = tt };
             shown = sym b.calls;
             own = subst (λ ls. HandsOwn sites ls) (sym b.calls) tt;
-            fuel = fueled_made types.state w.live.sites run (record { number = number; command = Some (command.Cluster sites parts); step = step.MadeCluster sites parts }) (record { lets = refl; untaken = refl; unchanged = λ h ls p. refl }) b.unlit;
+            fuel = fueled_made types.state w.live.sites run (record { number = number; command = Some (command.Cluster sites parts); step = step.MadeCluster sites parts }) (record { lets = refl; untaken = refl; unchanged = λ h ls p. refl }) b.unlit b.lacks unarmed;
             each = λ who. subst (λ l. StandsAs ((record { number = number; command = Some (command.Cluster sites parts); step = step.MadeCluster sites parts }) ∷ run) [] who (session_in l who)) (sym none) (b.phases who, b.site who);
             count = b.count ∙ ap length (sym none);
           };

@@ -173,7 +173,7 @@ module _ {S E D : Type 0} (types : Types S E D) (c : LiveState E D) (name : List
           of_session = refl;
           placed = (λ i. record { at = place_is run r a.before a.is here i; call = Begin (sym st.name i) (wish_of (sym st.depends i) mode) });
           past = st.depends ∙ ap (lines.dependency (sites_of run) (calls_of run)) (sym st.name);
-          spent = d.0.1;
+          told = d.0;
           few = b.few;
           idle = λ who h line. refl;
           phase = subst (λ n. phase_after (parts_of run) n (phase run name) (Some (command.Begin n part mode)) answer ≡ phase_as a.after.doing) st.name (ap (phase_after (parts_of run) a.before.name (phase run name) (Some (command.Begin a.before.name part mode))) t.shows ∙ b.phase (parts_of run) part mode (phase run name) st.phase);

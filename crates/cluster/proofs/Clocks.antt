@@ -35,6 +35,8 @@ use Rattle.cluster.proofs.Faulted.{same_of, shows_told}
 use Rattle.cluster.proofs.Meets.{all_met, first_at, none_due, refused}
 use Rattle.cluster.proofs.Seeing.{line_tells, told_last}
 use Rattle.cluster.proofs.Turned.{fuel_next, turned_alone}
+use Rattle.cluster.specs.Faults.{TellsFault}
+use Rattle.cluster.proofs.FusedRuns.{is_of_restart}
 use Rattle.cluster.proofs.Turning.{is_numberless, IsCallLine, IsSilentFor, call_line, asked_lines}
 
 module _ {S E D : Type 0} (types : Types S E D) (c : LiveState E D) where
@@ -61,7 +63,7 @@ module _ {S E D : Type 0} (types : Types S E D) (c : LiveState E D) where
         subst (λ l. IsAnswer is_built run (command.Clock p n) l × GoesTo types c run r (record { sites = later; sessions = c.sessions }) (answered number (Some (command.Clock p n)) l run) × ShowFaults types.state run c.sites later l) (sym is) (
           subst (AnswersBy run (command.Clock p n) (step.Ticked p now ∷ [])) (sym (none_met run r there)) (step.Ticked p now, refl, refl, tt),
           turned_alone types c run r number (command.Clock p n) 0 p (Ticked n now) later size seen refl (asked_lines number (command.Clock p n) run (step.Ticked p now) (step.Ticked p now) p (Tick n) refl refl refl refl) (λ who s. refl) (λ who. tt) tt
-              (fuel_next types c run r number (command.Clock p n) 0 p (Ticked n now) later size seen refl (asked_lines number (command.Clock p n) run (step.Ticked p now) (step.Ticked p now) p (Tick n) refl refl refl refl) g.moves (spends_of types c.sites later (Asks types c.sites Any p (AskTick n)) p (AskTick n) (Ticked n now) g (entries r.calls) r.sees.reached (tt, tt))),
+              (fuel_next types c run r number (command.Clock p n) 0 p (Ticked n now) later size seen refl (asked_lines number (command.Clock p n) run (step.Ticked p now) (step.Ticked p now) p (Tick n) refl refl refl refl) g.moves (spends_of types c.sites later (Asks types c.sites Any p (AskTick n)) p (AskTick n) (Ticked n now) g (entries r.calls) r.sees.reached (tt, tt)) refl tt),
           (tt, tt),
         )
 
@@ -71,6 +73,7 @@ module _ {S E D : Type 0} (types : Types S E D) (c : LiveState E D) where
       pub call : call_of e ≡ Tick n
       pub silent : (who : List ℕ) → IsSilentFor events who e
       pub sure : (t : TxId) → step_shown events p e ≡ step.Unsure t → ⊥
+      pub called : is_of_restart e ≡ false
 
     no_gap : (sites parts : ℕ) (q : PartState E) (h : ℕ) → IsRefused types.kinds sites parts p q (AskTick n) (HasGap h) → ⊥
     no_gap sites parts q h r = r.1
@@ -81,10 +84,10 @@ module _ {S E D : Type 0} (types : Types S E D) (c : LiveState E D) where
     refused_tick : (later : Held E D) (events : List (Entry E)) (why : Refusal) → Reaches types later ((record { at = p; event = Refused (AskTick n) why }) ∷ events) → IsTick events (Refused (AskTick n) why)
     refused_tick later events (HasGap h) r = absurd (no_gap later.sites later.parts (r.is_run.0 p) h r.is_run.2.step.0)
     refused_tick later events (IsRepeat h) r = absurd (no_repeat later.sites later.parts (r.is_run.0 p) h r.is_run.2.step.0)
-    refused_tick later events why r = record { plain = refl; call = refl; silent = λ who. tt; sure = λ t k. absurd cc }
+    refused_tick later events why r = record { plain = refl; call = refl; silent = λ who. tt; sure = λ t k. absurd cc; called = refl }
 
     cut_tick : (events : List (Entry E)) (now : ℕ) (what : Event E) → what ≡ Ticked n now → IsTick events (Cut what)
-    cut_tick events now what k = subst (λ e. IsTick events (Cut e)) (sym k) (record { plain = refl; call = refl; silent = λ who. tt; sure = λ t k. absurd cc })
+    cut_tick events now what k = subst (λ e. IsTick events (Cut e)) (sym k) (record { plain = refl; call = refl; silent = λ who. tt; sure = λ t k. absurd cc; called = refl })
 
     -- the line of a call that isn't answered tells its faults, and is a line of partitions
     pub clock_fails : (later : Held E D) (error : DurableError) (line : Step) (steps : List Step) → steps ≡ line ∷ [] → holds_part c.sites p ≡ true → Calls types c.sites later Any p (AskTick n) (λ (now : ℕ) (e : Event E). e ≡ Ticked n now) (Err error) → FailedAs {X = Unit {0}} p (record { site = 0; part = 0; time = 0 }) 0 (step.Disk p) error (Ok line) → AppliesLive types c (command.Clock p n) steps (record { sites = later; sessions = c.sessions })
@@ -98,6 +101,6 @@ module _ {S E D : Type 0} (types : Types S E D) (c : LiveState E D) where
           subst (AnswersBy run (command.Clock p n) (line ∷ [])) (sym (none_met run r there)) (line, refl, ap (λ s. is_answer s && true) x.shows ∙ ap (λ b. b && true) told.answer, tt),
           subst (λ s. GoesTo types c run r (record { sites = later; sessions = c.sessions }) ((record { number = number; command = Some (command.Clock p n); step = s }) ∷ run)) (sym x.shows)
               (turned_alone types c run r number (command.Clock p n) 0 p x.event later x.same seen x.property.plain lines (λ who s. refl) x.property.silent (subst (IsOwnPast (sites_of run) (calls_of run)) (sym x.property.call) tt)
-              (fuel_next types c run r number (command.Clock p n) 0 p x.event later x.same seen x.property.plain lines x.moves x.spends)),
+              (fuel_next types c run r number (command.Clock p n) 0 p x.event later x.same seen x.property.plain lines x.moves x.spends x.property.called (subst (TellsFault types.state c.sites later p) x.shows tells))),
           (shows_told types.state run c.sites later p line tells (λ t k. absurd (x.property.sure t (sym x.shows ∙ k))), tt),
         )

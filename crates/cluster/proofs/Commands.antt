@@ -124,7 +124,7 @@ module _ {S E D : Type 0} (types : Types S E D) (c : LiveState E D) (name : List
                 of_session = refl;
                 placed = ap (λ p. at_object (parts_of run) o p (λ u. ReadOf u o)) (st.phase ∙ ap phase_as e) ∙ (λ i. record { at = record { site = x.0.site_is i; part = place_of o.bucket o.key (sym st.parts i) }; call = ReadOf txn.tx o });
                 past = tt;
-                spent = d.0.1;
+                told = d.0;
                 few = subst (λ (y : SessionState E). update_total (phase_as y.doing) ≤ 256) (sym d.1) st.few;
                 idle = λ who h line. refl;
                 phase = ap (phase_after (parts_of run) name (phase run name) (Some (command.Read name o))) t.shows ∙ (read_phase (entries r.calls) place txn.tx txn.s o (own_updates txn.updates o) t.event t.asked (parts_of run) name (phase run name) name ∙ (st.phase ∙ ap (λ y. phase_as y.doing) (sym d.1)));

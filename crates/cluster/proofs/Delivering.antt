@@ -37,11 +37,12 @@ use Rattle.site_partitions.specs.Reaches.{Types, MayAsk, Reaches}
 use Rattle.cluster.specs.declared.post.Note.{Note}
 use Rattle.site_partitions.specs.Answers.{Any, Asks, Calls, GoesOn}
 use Rattle.cluster.specs.Built.{is_built}
-use Rattle.cluster.specs.Faults.{ShowsFault, ShowFaults}
+use Rattle.cluster.specs.Faults.{TellsFault, ShowsFault, ShowFaults}
 use Rattle.site_partitions.specs.Held.{Held, holds_site, holds_part}
 use Rattle.cluster.specs.Same.{SameCluster}
 use Rattle.cluster.specs.Post.{WholeState, HasPost, IsLetter, MailAs, IsNote, NoteAs, item_at}
 use Rattle.cluster.specs.Reached.{Applies, FaultsShown, IsReached, Reached, ReachedWhole}
+use Rattle.cluster.proofs.FusedRuns.{is_of_restart}
 use Rattle.cluster.specs.Sees.{Sees, FailedAs, refusal_line}
 use Rattle.cluster.proofs.Clocks.{part_in}
 use Rattle.cluster.proofs.Dropping.{turned_down, lacks_mail, lacks_notice}
@@ -151,6 +152,10 @@ refused_quiet : {E D : Type 0} (state : D → DiskState) (run : Run) (old new : 
 refused_quiet state run old new at number answer.BadOp = tt
 refused_quiet state run old new at number other = tt
 
+refused_tells : {E D : Type 0} (state : D → DiskState) (old new : Held E D) (at : PartId) (number : ℕ) (why : part.Refusal) → TellsFault state old new at (refusal_line at no_tx number (cause why))
+refused_tells state old new at number answer.BadOp = tt
+refused_tells state old new at number other = tt
+
 refused_plain : (at : PartId) (number : ℕ) (why : Refusal) → is_postal (refusal_line at no_tx number why) ≡ false
 refused_plain at number IsDown = refl
 refused_plain at number other = refl
@@ -203,11 +208,11 @@ module _ {S E D : Type 0} (types : Types S E D) (w : WholeState E D) where
   -- a call that makes no message and no report leaves what is kept as it was
   pub called_on : (cmd : Command) (held : Held E D) (at : PartId) (e : Event E) (s : Step) (line : ℕ) (run : Run) (r : ReachedWhole types w run) → SameCluster types.state w.live.sites held → Sees types held (called 0 at e ∷ r.live.calls) → IsPosted cmd s → numbered run s ≡ step_shown (entries r.live.calls) at e → asked_of (calls_of run) run cmd ≡ record { at = at; call = call_of e }
       → ((who : List ℕ) → IsSilentFor (entries r.live.calls) who e) → IsOwnPast (sites_of run) (calls_of run) (call_of e) → is_postal s ≡ false → is_sent e ≡ false → is_report e ≡ false
-      → (m : Moves types.state w.live.sites held at) → Spends types.kinds types.codec types.state m.before m.after (r.live.sees.reached.state at) e
+      → (m : Moves types.state w.live.sites held at) → Spends types.kinds types.codec types.state m.before m.after (r.live.sees.reached.state at) e → is_of_restart e ≡ false → TellsFault types.state w.live.sites held at s
       → ReachedWhole types (after held) ((record { number = line; command = Some cmd; step = s }) ∷ run)
-  called_on cmd held at e s line run r size sees told numbers placed silent own plain unsent unreported m spends =
+  called_on cmd held at e s line run r size sees told numbers placed silent own plain unsent unreported m spends no_restart tells =
       let next : Run = (record { number = line; command = Some cmd; step = s }) ∷ run in
-      let x : Posted types w.live run r.live line cmd at e held size sees s told numbers placed silent own = posted types w.live run r.live line cmd at e held size sees s told numbers placed silent own m spends in
+      let x : Posted types w.live run r.live line cmd at e held size sees s told numbers placed silent own = posted types w.live run r.live line cmd at e held size sees s told numbers placed silent own m spends no_restart tells in
       let kept : HasPost w.live.sites.sites w.live.sites.parts next (entries (called 0 at e ∷ r.live.calls)) w.post = post_on w.live.sites.sites w.live.sites.parts run next r.live.calls (called 0 at e ∷ r.live.calls) w.post (keeps_line line (Some cmd) s run plain) (grows_one (called 0 at e) r.live.calls unsent unreported) r.post in
       record {
         live = x.reached;
@@ -220,6 +225,7 @@ module _ {S E D : Type 0} (types : Types S E D) (w : WholeState E D) where
     pub silent : (who : List ℕ) → IsSilentFor events who e
     pub unsent : is_sent e ≡ false
     pub unreported : is_report e ≡ false
+    pub called : is_of_restart e ≡ false
 
   -- a call of messages or reports that fails
   pub struck : {A : Type 0} (held : Held E D) (cmd : Command) → is_asking cmd ≡ true → (at : PartId) (ask : Ask E) (Shows : A → Event E → Type 0) (error : DurableError) (s : Step) (steps : List Step) → steps ≡ s ∷ [] → is_failing s ≡ true → FailedAs {X = Unit {0}} at (tx_asked ask) (number_asked ask) (step.Disk at) error (Ok s) → Calls types w.live.sites held Any at ask Shows (Err error)
@@ -227,13 +233,13 @@ module _ {S E D : Type 0} (types : Types S E D) (w : WholeState E D) where
       → ((x : A) (what : Event E) → Shows x what → call_of (Cut what) ≡ call_asked ask) → ((x : A) (what : Event E) → Shows x what → (who : List ℕ) → IsSilentFor (entries r.live.calls) who (Cut what)) → ((x : A) (what : Event E) → Shows x what → (step.Disk at ≡ fault_shown at what) × (asked_by what ≡ ask))
       → IsAnswer is_built run cmd steps × Reached types (Some (after held)) (answered line (Some cmd) steps run) × FaultsShown types (Some w) run steps (Some (after held))
   struck held cmd asking at ask Shows error s steps is failing f g line run r may unmet placed past calls silent faults =
-      let x = failed_by types w.live.sites held (Asks types w.live.sites Any at ask) at ask Shows (step.Disk at) (entries r.live.calls) r.live.sees.reached (may, tt) (IsStruck (entries r.live.calls) ask) (λ why reached. record { call = refl; silent = λ who. tt; unsent = refl; unreported = refl }) (λ a what k reached. record { call = calls a what k; silent = silent a what k; unsent = refl; unreported = refl }) faults error s g f in
+      let x = failed_by types w.live.sites held (Asks types w.live.sites Any at ask) at ask Shows (step.Disk at) (entries r.live.calls) r.live.sees.reached (may, tt) (IsStruck (entries r.live.calls) ask) (λ why reached. record { call = refl; silent = λ who. tt; unsent = refl; unreported = refl; called = refl }) (λ a what k reached. record { call = calls a what k; silent = silent a what k; unsent = refl; unreported = refl; called = refl }) faults error s g f in
       let seen : Sees types held (called 0 at x.event ∷ r.live.calls) = record { reached = x.reached; one_caller = (refl, r.live.sees.one_caller); rooms = (x.room, rooms_on types w.live.sites held x.same (entries r.live.calls) r.live.sees.rooms) } in
       let tells = line_tells types {P = Unit {0}} w.live.sites held Any at ask tt None (Unit {0}) Shows (step.Disk at) (λ rose. (refl, rose)) error s g f in
       subst (λ l. IsAnswer is_built run cmd l × Reached types (Some (after held)) (answered line (Some cmd) l run) × FaultsShown types (Some w) run l (Some (after held))) (sym is) (
         subst (AnswersBy run cmd (s ∷ [])) (sym unmet) (failing_replies run cmd asking s failing),
-        called_on cmd held at x.event s line run r x.same seen (failing_posted cmd asking s failing) (failing_numbered run s failing ∙ x.shows) (placed ∙ ap (λ k. record { at = at; call = k }) (sym x.property.call)) x.property.silent (subst (IsOwnPast (sites_of run) (calls_of run)) (sym x.property.call) past) (failing_plain s failing) x.property.unsent x.property.unreported x.moves x.spends,
-        (shows_told types.state run w.live.sites held at s tells (λ t k. absurd (true≢false (sym failing ∙ ap is_failing k))), tt),
+        called_on cmd held at x.event s line run r x.same seen (failing_posted cmd asking s failing) (failing_numbered run s failing ∙ x.shows) (placed ∙ ap (λ k. record { at = at; call = k }) (sym x.property.call)) x.property.silent (subst (IsOwnPast (sites_of run) (calls_of run)) (sym x.property.call) past) (failing_plain s failing) x.property.unsent x.property.unreported x.moves x.spends x.property.called tells,
+        (x.same, (shows_told types.state run w.live.sites held at s tells (λ t k. absurd (true≢false (sym failing ∙ ap is_failing k))), tt)),
       )
 
   module _ (number : ℕ) (m : Message E) (there : item_at w.post.letters number ≡ Some m) where
@@ -259,12 +265,12 @@ module _ {S E D : Type 0} (types : Types S E D) (w : WholeState E D) where
         let reached : Reaches types held ((record { at = at; event = Took own m }) ∷ entries r.live.calls) = subst (λ e. Reaches types held ((record { at = at; event = e }) ∷ entries r.live.calls)) x.shows x.reached in
         let size : SameCluster types.state w.live.sites held = same_of types.state w.live.sites held _ (g own).moves in
         let s : Step = step.Took number m.hi in
-        subst (λ steps. IsAnswer is_built run (command.Deliver number) steps × ReachedWhole types (after held) (answered line (Some (command.Deliver number)) steps run) × ShowFaults types.state run w.live.sites held steps) (sym is) (
+        subst (λ steps. IsAnswer is_built run (command.Deliver number) steps × ReachedWhole types (after held) (answered line (Some (command.Deliver number)) steps run) × (SameCluster types.state w.live.sites held × ShowFaults types.state run w.live.sites held steps)) (sym is) (
           subst (AnswersBy run (command.Deliver number) (step.Took number m.hi ∷ [])) (sym (none_due (all_met run (command.Deliver number)) (refl, (ap not r.live.has, (ap is_none l.letter, tt))))) (s, refl, refl, refl),
           called_on (command.Deliver number) held at (Took own m) s line run r size (record { reached = reached; one_caller = (refl, r.live.sees.one_caller); rooms = rooms_more types w.live.sites held size (entries r.live.calls) at (Took own m) refl r.live.sees.rooms }) (took_posted number number m.hi)
               (ap (λ o. step.Took (own_of o) m.hi) l.letter) (ap for_message l.letter) (λ who. tt) tt refl refl refl
-              (g own).moves (spends_of types w.live.sites held (Asks types w.live.sites Any at (AskTake own m)) at (AskTake own m) (Took own m) (g own) (entries r.live.calls) r.live.sees.reached (may run r, tt)),
-          (tt, tt),
+              (g own).moves (spends_of types w.live.sites held (Asks types w.live.sites Any at (AskTake own m)) at (AskTake own m) (Took own m) (g own) (entries r.live.calls) r.live.sees.reached (may run r, tt)) refl tt,
+          (size, (tt, tt)),
         )
 
     pub not_taken : (held : Held E D) (why : part.Refusal) (steps : List Step) → steps ≡ refusal_line (record { site = m.to; part = m.part }) (record { site = 0; part = 0; time = 0 }) number (cause why) ∷ [] → ((n : ℕ) → GoesOn types w.live.sites held (Asks types w.live.sites Any (record { site = m.to; part = m.part }) (AskTake n m)) (record { site = m.to; part = m.part }) (AskTake n m) (λ e. e ≡ Refused (AskTake n m) (cause why))) → Applies types (Some w) (command.Deliver number) steps (Some (record { live = record { sites = held; sessions = w.live.sessions }; post = w.post }))
@@ -279,12 +285,12 @@ module _ {S E D : Type 0} (types : Types S E D) (w : WholeState E D) where
         let plain : is_told (Refused (AskTake own m) (cause why)) ≡ true = told_of types held (record { at = at; event = Refused (AskTake own m) (cause why) }) (entries r.live.calls) reached in
         let up = refused_up (AskTake own m) at number (cause why) plain in
         let s : Step = refusal_line at no_tx number (cause why) in
-        subst (λ steps. IsAnswer is_built run (command.Deliver number) steps × ReachedWhole types (after held) (answered line (Some (command.Deliver number)) steps run) × ShowFaults types.state run w.live.sites held steps) (sym is) (
+        subst (λ steps. IsAnswer is_built run (command.Deliver number) steps × ReachedWhole types (after held) (answered line (Some (command.Deliver number)) steps run) × (SameCluster types.state w.live.sites held × ShowFaults types.state run w.live.sites held steps)) (sym is) (
           subst (AnswersBy run (command.Deliver number) (refusal_line at no_tx number (cause why) ∷ [])) (sym (none_due (all_met run (command.Deliver number)) (refl, (ap not r.live.has, (ap is_none l.letter, tt))))) (s, refl, ap (λ b. b && true) up, refused_bears run at number (cause why)),
           called_on (command.Deliver number) held at (Refused (AskTake own m) (cause why)) s line run r size (record { reached = reached; one_caller = (refl, r.live.sees.one_caller); rooms = rooms_more types w.live.sites held size (entries r.live.calls) at (Refused (AskTake own m) (cause why)) (cause_has_room (AskTake own m) why) r.live.sees.rooms }) (refused_posted (AskTake own m) number at number (cause why) plain)
               (refused_numbered run (entries r.live.calls) at number own m (cause why) (ap own_of l.letter)) (ap for_message l.letter) (λ who. tt) tt (refused_plain at number (cause why)) refl refl
-              (g own).moves (spends_of types w.live.sites held (Asks types w.live.sites Any at (AskTake own m)) at (AskTake own m) (Refused (AskTake own m) (cause why)) (g own) (entries r.live.calls) r.live.sees.reached (may run r, tt)),
-          (refused_quiet types.state run w.live.sites held at number why, tt),
+              (g own).moves (spends_of types w.live.sites held (Asks types w.live.sites Any at (AskTake own m)) at (AskTake own m) (Refused (AskTake own m) (cause why)) (g own) (entries r.live.calls) r.live.sees.reached (may run r, tt)) refl (refused_tells types.state w.live.sites held at number why),
+          (size, (refused_quiet types.state run w.live.sites held at number why, tt)),
         )
 
     -- one that fails, with a line that no number is in
@@ -323,12 +329,12 @@ module _ {S E D : Type 0} (types : Types S E D) (w : WholeState E D) where
         let reached : Reaches types held ((record { at = at; event = Heard own n.from.part n.bounds stable }) ∷ entries r.live.calls) = subst (λ e. Reaches types held ((record { at = at; event = e }) ∷ entries r.live.calls)) x.shows x.reached in
         let size : SameCluster types.state w.live.sites held = same_of types.state w.live.sites held _ (g own).moves in
         let s : Step = step.Heard number at stable in
-        subst (λ steps. IsAnswer is_built run (command.Hear number at) steps × ReachedWhole types (after held) (answered line (Some (command.Hear number at)) steps run) × ShowFaults types.state run w.live.sites held steps) (sym is) (
+        subst (λ steps. IsAnswer is_built run (command.Hear number at) steps × ReachedWhole types (after held) (answered line (Some (command.Hear number at)) steps run) × (SameCluster types.state w.live.sites held × ShowFaults types.state run w.live.sites held steps)) (sym is) (
           subst (AnswersBy run (command.Hear number at) (step.Heard number at stable ∷ [])) (sym (none_due (all_met run (command.Hear number at)) (refl, (ap not r.live.has, (ap not (sym (part_in types w.live run r.live at) ∙ has), (ap is_none l.notice, (ap (λ o. is_foreign o at) l.notice ∙ ap not same, tt))))))) (s, refl, refl, refl),
           called_on (command.Hear number at) held at (Heard own n.from.part n.bounds stable) s line run r size (record { reached = reached; one_caller = (refl, r.live.sees.one_caller); rooms = rooms_more types w.live.sites held size (entries r.live.calls) at (Heard own n.from.part n.bounds stable) refl r.live.sees.rooms }) (heard_posted number number at at stable)
               (ap (λ o. step.Heard (own_report o) at stable) l.notice) (ap (for_report at) l.notice) (λ who. tt) tt refl refl refl
-              (g own).moves (spends_of types w.live.sites held (Asks types w.live.sites Any at (AskHear own n.from.part n.bounds)) at (AskHear own n.from.part n.bounds) (Heard own n.from.part n.bounds stable) (g own) (entries r.live.calls) r.live.sees.reached (may_listen run r, tt)),
-          (tt, tt),
+              (g own).moves (spends_of types w.live.sites held (Asks types w.live.sites Any at (AskHear own n.from.part n.bounds)) at (AskHear own n.from.part n.bounds) (Heard own n.from.part n.bounds stable) (g own) (entries r.live.calls) r.live.sees.reached (may_listen run r, tt)) refl tt,
+          (size, (tt, tt)),
         )
 
     -- a hear that fails

@@ -24,6 +24,7 @@ use Rattle.cluster.specs.Reached.{Applies, ReachedWhole}
 use Rattle.cluster.proofs.Keeping.{post_on, letter_at, note_at}
 use Rattle.cluster.proofs.Meets.{all_met, first_at, none_due}
 use Rattle.cluster.specs.Faults.{ShowFaults}
+use Rattle.cluster.specs.Same.{SameCluster, same_refl}
 use Rattle.cluster.proofs.Mere.{is_mere, mere_faults, IsMere}
 use Rattle.cluster.proofs.Standing.{live_still, mere_still}
 
@@ -58,7 +59,7 @@ module _ {S E D : Type 0} (types : Types S E D) (w : WholeState E D) where
           live = x.reached;
           post = post_on w.live.sites.sites w.live.sites.parts run next r.live.calls x.reached.calls w.post x.keeps x.grows r.post;
         }),
-        mere_faults types.state run w.live.sites w.live.sites s steps is h,
+        (same_refl types.state w.live.sites, mere_faults types.state run w.live.sites w.live.sites s steps is h),
       )
 
   module _ (number : ℕ) where
@@ -81,7 +82,7 @@ module _ {S E D : Type 0} (types : Types S E D) (w : WholeState E D) where
     pub message_dropped : (letters : List (ℕ × Message E)) (steps : List Step) → steps ≡ step.DroppedMessage number ∷ [] → is_some (item_at w.post.letters number) ≡ true → ((k : ℕ) → item_at letters k ≡ (if nat_eq number k then None else item_at w.post.letters k)) → length letters + 1 ≡ length w.post.letters
         → Applies types (Some w) (command.DropMessage number) steps (Some (record { live = w.live; post = record { letters = letters; next_letter = w.post.next_letter; notes = w.post.notes; next_note = w.post.next_note } }))
     message_dropped letters steps is there find count line run r =
-        subst (λ l. IsAnswer is_built run (command.DropMessage number) l × ReachedWhole types (record { live = w.live; post = record { letters = letters; next_letter = w.post.next_letter; notes = w.post.notes; next_note = w.post.next_note } }) (answered line (Some (command.DropMessage number)) l run) × ShowFaults types.state run w.live.sites w.live.sites l) (sym is) (
+        subst (λ l. IsAnswer is_built run (command.DropMessage number) l × ReachedWhole types (record { live = w.live; post = record { letters = letters; next_letter = w.post.next_letter; notes = w.post.notes; next_note = w.post.next_note } }) (answered line (Some (command.DropMessage number)) l run) × (SameCluster types.state w.live.sites w.live.sites × ShowFaults types.state run w.live.sites w.live.sites l)) (sym is) (
           subst (AnswersBy run (command.DropMessage number) (step.DroppedMessage number ∷ [])) (sym (none_due (all_met run (command.DropMessage number)) (refl, (ap not r.live.has, (lacks_mail run r true there, tt))))) refl,
           record {
             live = mere_still types w.live line (Some (command.DropMessage number)) (step.DroppedMessage number) run (dropped_letter number) (λ who. refl) r.live;
@@ -98,7 +99,7 @@ module _ {S E D : Type 0} (types : Types S E D) (w : WholeState E D) where
               beyond = r.post.beyond;
             };
           },
-          (tt, tt),
+          (same_refl types.state w.live.sites, (tt, tt)),
         )
       where
         next : Run
@@ -114,7 +115,7 @@ module _ {S E D : Type 0} (types : Types S E D) (w : WholeState E D) where
     pub report_dropped : (notes : List (ℕ × Note)) (steps : List Step) → steps ≡ step.DroppedReport number ∷ [] → is_some (item_at w.post.notes number) ≡ true → ((k : ℕ) → item_at notes k ≡ (if nat_eq number k then None else item_at w.post.notes k)) → length notes + 1 ≡ length w.post.notes
         → Applies types (Some w) (command.DropReport number) steps (Some (record { live = w.live; post = record { letters = w.post.letters; next_letter = w.post.next_letter; notes = notes; next_note = w.post.next_note } }))
     report_dropped notes steps is there find count line run r =
-        subst (λ l. IsAnswer is_built run (command.DropReport number) l × ReachedWhole types (record { live = w.live; post = record { letters = w.post.letters; next_letter = w.post.next_letter; notes = notes; next_note = w.post.next_note } }) (answered line (Some (command.DropReport number)) l run) × ShowFaults types.state run w.live.sites w.live.sites l) (sym is) (
+        subst (λ l. IsAnswer is_built run (command.DropReport number) l × ReachedWhole types (record { live = w.live; post = record { letters = w.post.letters; next_letter = w.post.next_letter; notes = notes; next_note = w.post.next_note } }) (answered line (Some (command.DropReport number)) l run) × (SameCluster types.state w.live.sites w.live.sites × ShowFaults types.state run w.live.sites w.live.sites l)) (sym is) (
           subst (AnswersBy run (command.DropReport number) (step.DroppedReport number ∷ [])) (sym (none_due (all_met run (command.DropReport number)) (refl, (ap not r.live.has, (lacks_notice run r true there, tt))))) refl,
           record {
             live = mere_still types w.live line (Some (command.DropReport number)) (step.DroppedReport number) run (dropped_note number) (λ who. refl) r.live;
@@ -131,7 +132,7 @@ module _ {S E D : Type 0} (types : Types S E D) (w : WholeState E D) where
               beyond = λ k h. find k ∙ none_either (nat_eq number k) (item_at w.post.notes k) (r.post.beyond k h);
             };
           },
-          (tt, tt),
+          (same_refl types.state w.live.sites, (tt, tt)),
         )
       where
         next : Run

@@ -47,7 +47,7 @@ use Rattle.cluster.proofs.Downed.{down_abort}
 use Rattle.cluster.proofs.Failing.{spends_of}
 use Rattle.world_model.specs.rules.Asking.{asked_by}
 use Rattle.cluster.proofs.Rooms.{found_full, rooms_on, rooms_more}
-use Rattle.cluster.proofs.Faulted.{same_of, rose_of}
+use Rattle.cluster.proofs.Faulted.{failed_of, same_of, rose_of}
 use Rattle.cluster.proofs.FuelStays.{fueled_idle}
 use Rattle.cluster.proofs.FuelLines.{lets_burn}
 use Rattle.cluster.proofs.FuelWrites.{is_took}
@@ -167,7 +167,7 @@ module _ {S E D : Type 0} (types : Types S E D) (c : LiveState E D) (p : PartId)
               let seen : Sees types later (called 0 p (Aborted t false) ∷ r.calls) = record { reached = subst (λ e. Reaches types later ((record { at = p; event = e }) ∷ entries r.calls)) x.shows x.reached; one_caller = (refl, r.sees.one_caller); rooms = rooms_more types c.sites later (same_of types.state c.sites later p g.moves) (entries r.calls) p (Aborted t false) refl r.sees.rooms } in (
                 aborts (step.Aborted p t) run r (asked run r) refl,
                 turned_alone types c run r number (command.Expire p t) 0 p (Aborted t false) later (same_of types.state c.sites later p g.moves) seen refl refl (λ who s. refl) (λ who. tt) tt
-                    (fuel_next types c run r number (command.Expire p t) 0 p (Aborted t false) later (same_of types.state c.sites later p g.moves) seen refl refl g.moves (spends_of types c.sites later (AbortsByLead types c.sites p t) p (AskAbort t) (Aborted t false) g (entries r.calls) r.sees.reached (may_drop run r))),
+                    (fuel_next types c run r number (command.Expire p t) 0 p (Aborted t false) later (same_of types.state c.sites later p g.moves) seen refl refl g.moves (spends_of types c.sites later (AbortsByLead types c.sites p t) p (AskAbort t) (Aborted t false) g (entries r.calls) r.sees.reached (may_drop run r)) refl tt),
                 tt,
               ))
 
@@ -182,7 +182,7 @@ module _ {S E D : Type 0} (types : Types S E D) (c : LiveState E D) (p : PartId)
               subst (λ y. IsExpired run p t (y ∷ []) × GoesTo types c run r (record { sites = later; sessions = c.sessions }) ((record { number = number; command = Some (command.Expire p t); step = y }) ∷ run) × ShowsFault types.state run c.sites later y) (sym f) (
                 aborts (step.Disk p) run r (asked run r) refl,
                 turned_alone types c run r number (command.Expire p t) 0 p (Cut (Aborted t false)) later (same_of types.state c.sites later p g.0.moves) seen refl refl (λ who k. refl) (λ who. tt) tt
-                    (fuel_next types c run r number (command.Expire p t) 0 p (Cut (Aborted t false)) later (same_of types.state c.sites later p g.0.moves) seen refl refl g.0.moves (subst (λ e. Spends types.kinds types.codec types.state g.0.moves.before g.0.moves.after (r.sees.reached.state p) e) event (g.0.goes (entries r.calls) r.sees.reached (may_drop run r)).1)),
+                    (fuel_next types c run r number (command.Expire p t) 0 p (Cut (Aborted t false)) later (same_of types.state c.sites later p g.0.moves) seen refl refl g.0.moves (subst (λ e. Spends types.kinds types.codec types.state g.0.moves.before g.0.moves.after (r.sees.reached.state p) e) event (g.0.goes (entries r.calls) r.sees.reached (may_drop run r)).1) refl (refl, failed_of types.state c.sites later p g.0.moves g.1)),
                 rose_of types.state c.sites later p g.0.moves g.1.rose,
               ))
           expire_failed (call.Full room) s steps is g f = line_applies s (record { sites = later; sessions = c.sessions }) steps is (λ number run r.
@@ -191,7 +191,7 @@ module _ {S E D : Type 0} (types : Types S E D) (c : LiveState E D) (p : PartId)
               subst (λ y. IsExpired run p t (y ∷ []) × GoesTo types c run r (record { sites = later; sessions = c.sessions }) ((record { number = number; command = Some (command.Expire p t); step = y }) ∷ run) × ShowsFault types.state run c.sites later y) (sym f) (
                 aborts (step.Full room) run r (asked run r) refl,
                 turned_alone types c run r number (command.Expire p t) 0 p (Refused (AskAbort t) (HasNoRoom room)) later (same_of types.state c.sites later p g.1.moves) seen refl refl (λ who k. refl) (λ who. tt) tt
-                    (fuel_next types c run r number (command.Expire p t) 0 p (Refused (AskAbort t) (HasNoRoom room)) later (same_of types.state c.sites later p g.1.moves) seen refl refl g.1.moves (spends_of types c.sites later (AbortsByLead types c.sites p t) p (AskAbort t) (Refused (AskAbort t) (HasNoRoom room)) g.1 (entries r.calls) r.sees.reached (may_drop run r))),
+                    (fuel_next types c run r number (command.Expire p t) 0 p (Refused (AskAbort t) (HasNoRoom room)) later (same_of types.state c.sites later p g.1.moves) seen refl refl g.1.moves (spends_of types c.sites later (AbortsByLead types c.sites p t) p (AskAbort t) (Refused (AskAbort t) (HasNoRoom room)) g.1 (entries r.calls) r.sees.reached (may_drop run r)) refl tt),
                 tt,
               ))
           expire_failed (call.Refused why) s steps is g f = line_applies s (record { sites = later; sessions = c.sessions }) steps is (λ number run r.

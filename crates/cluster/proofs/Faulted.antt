@@ -1,7 +1,7 @@
 -- A call of one partition leaves the cluster the same, and its disk's count of faults rose where the call says so.
-use Rattle.std.proofs.Common.{◌≡◌, ℕ, zero, suc, ◌≤◌, List, [], ◌∷◌, ◌++◌, get_or, set, refl, sym, ◌∙◌, subst, arith}
+use Rattle.std.proofs.Common.{◌≡◌, ℕ, zero, suc, ◌≤◌, Bool, List, [], ◌∷◌, ◌++◌, get_or, set, refl, sym, ◌∙◌, subst, arith}
 use Rattle.site_vector.specs.declared.ids.PartId.{PartId}
-use Rattle.disk_core.specs.States.{DiskState, Rose}
+use Rattle.disk_core.specs.States.{DiskState, Rose, Fails}
 use Rattle.partition_core.specs.Durable.{Durable, disk_in}
 use Rattle.site_vector.specs.declared.ids.TxId.{TxId}
 use Rattle.world_model.specs.commands.Cluster.{parts_of}
@@ -12,14 +12,29 @@ use Rattle.world_model.specs.declared.step.Step.{Step}
 use Rattle.world_model.specs.declared.step.Step.TheVariants as step
 use Rattle.site_partitions.specs.Held.{Held, index_of}
 use Rattle.site_partitions.specs.Moves.{Moves}
-use Rattle.cluster.specs.Same.{SameCluster, faults_at, room_at}
-use Rattle.cluster.specs.Faults.{FaultsRose, TellsFault, ShowsFault, ShowFaults}
+use Rattle.cluster.specs.Same.{SameCluster, disk_at, faults_at, room_at}
+use Rattle.cluster.specs.Faults.{FaultsRose, HasFailed, TellsFault, ShowsFault, ShowFaults}
 
 then_more : (a b c : ℕ) → a ≤ b → b ≤ c → a ≤ c
 then_more a b c h k = omega arith
 
 then_rose : (a b c : ℕ) → a ≤ b → Rose b c → Rose a c
 then_rose a b c h k = omega arith
+
+module _ {A X : Type 0} (f : A → X) where
+  -- what stays the same of an element that is put stays the same everywhere
+  same_put : (xs : List A) (i : ℕ) (t u : A) → ((other : A) → get_or xs i other ≡ t) → f u ≡ f t → (j : ℕ) (other : A) → f (get_or (set xs i u) j other) ≡ f (get_or xs j other)
+  same_put [] i t u h k j other = refl
+  same_put (x ∷ xs) zero t u h k zero other = subst (λ y. f u ≡ f y) (sym (h x)) k
+  same_put (x ∷ xs) zero t u h k (suc j) other = refl
+  same_put (x ∷ xs) (suc i) t u h k zero other = refl
+  same_put (x ∷ xs) (suc i) t u h k (suc j) other = same_put xs i t u h k j other
+
+  -- and what holds of both holds there
+  both_put : (R : X → X → Type 0) (xs : List A) (i : ℕ) (t u : A) → ((other : A) → get_or xs i other ≡ t) → R (f t) (f u) → (other : A) → R (f (get_or xs i other)) (f (get_or (set xs i u) i other))
+  both_put R [] i t u h k other = subst (λ y. R (f y) (f other)) (sym (h other)) (subst (λ y. R (f t) (f y)) (h u ∙ sym (h other)) k)
+  both_put R (x ∷ xs) zero t u h k other = subst (λ y. R (f y) (f u)) (sym (h x)) k
+  both_put R (x ∷ xs) (suc i) t u h k other = both_put R xs i t u h k other
 
 module _ {A : Type 0} (f : A → ℕ) where
   -- what is counted falls nowhere, where an element is put that counts no less
@@ -47,6 +62,9 @@ module _ {E D : Type 0} (state : D → DiskState) where
   abbrev faults_of : Durable E D → ℕ
   faults_of t = (disk_in state t).faults
 
+  abbrev sound_of : Durable E D → Bool
+  sound_of t = (disk_in state t).sound
+
   abbrev room_of : Durable E D → ℕ
   room_of t = (disk_in state t).room
 
@@ -56,7 +74,14 @@ module _ {E D : Type 0} (state : D → DiskState) where
     parts_are = m.same_parts;
     faults = λ p other. subst (λ (h : Held E D). faults_at state old p other ≤ faults_at state h p other) (sym m.changed) (later_set faults_of old.partitions (index_of old.parts at) m.before m.after m.there m.disk.later (index_of old.parts p) other);
     rooms = λ p other. subst (λ (h : Held E D). room_at state h p other ≡ room_at state old p other) (sym m.changed) (same_set room_of old.partitions (index_of old.parts at) m.before m.after m.there m.disk.room (index_of old.parts p) other);
+    sounds = λ p other. subst (λ (h : Held E D). (disk_at state h p other).sound ≡ (disk_at state old p other).sound) (sym m.changed) (same_put sound_of old.partitions (index_of old.parts at) m.before m.after m.there m.disk.sound (index_of old.parts p) other);
   }
+
+  pub failed_of : (old new : Held E D) (at : PartId) (m : Moves state old new at) → Fails (disk_in state m.before) (disk_in state m.after) → HasFailed state old new at
+  failed_of old new at m r other = subst (λ (h : Held E D). Fails (disk_at state old at other) (disk_at state h at other)) (sym m.changed) (both_put (λ t. disk_in state t) Fails old.partitions (index_of old.parts at) m.before m.after m.there r other)
+
+  pub rose_by : (old new : Held E D) (at : PartId) → HasFailed state old new at → FaultsRose state old new at
+  rose_by old new at h other = (h other).rose
 
   pub rose_of : (old new : Held E D) (at : PartId) (m : Moves state old new at) → Rose (disk_in state m.before).faults (disk_in state m.after).faults → FaultsRose state old new at
   rose_of old new at m r other = subst (λ (h : Held E D). Rose (faults_at state old at other) (faults_at state h at other)) (sym m.changed) (rose_set faults_of old.partitions (index_of old.parts at) m.before m.after m.there r other)
@@ -84,8 +109,8 @@ module _ {E D : Type 0} (state : D → DiskState) where
 
   -- what a command's line tells, where its call tells so, and a decide in doubt was asked of the lead
   pub shows_told : (run : Run) (old new : Held E D) (at : PartId) (line : Step) → TellsFault state old new at line → ((t : TxId) → line ≡ step.Unsure t → lead (parts_of run) (calls_of run) t ≡ at) → ShowsFault state run old new line
-  shows_told run old new at (step.Disk p) h led = h.1
-  shows_told run old new at (step.Unsure t) h led = subst (FaultsRose state old new) (sym (led t refl)) h
+  shows_told run old new at (step.Disk p) h led = rose_by old new p h.1
+  shows_told run old new at (step.Unsure t) h led = subst (FaultsRose state old new) (sym (led t refl)) (rose_by old new at h)
   shows_told run old new at other h led = tt
 
   -- after any run that tells of the same leads

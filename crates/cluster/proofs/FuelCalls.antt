@@ -14,7 +14,7 @@ use Rattle.world_model.specs.declared.step.Step.{Step}
 use Rattle.world_model.specs.declared.step.Step.TheVariants as step
 use Rattle.world_model.specs.lines.Bounds.{bound}
 use Rattle.world_model.specs.commands.Cluster.{parts_of}
-use Rattle.world_model.specs.rules.Event.{Event, Took, Entry}
+use Rattle.world_model.specs.rules.Event.{Event, Took, Entry, attempt}
 use Rattle.world_model.specs.commands.Fuses.{Fuse, fuse, fuse_after, is_change, is_bringing, shows_written}
 use Rattle.world_model.specs.lines.Lines as world
 use Rattle.world_model.specs.rules.Lines.{shown_lines, call_of, step_shown}
@@ -32,9 +32,11 @@ use Rattle.site_partitions.specs.Held.{Held, index_of, holds_site, holds_part}
 use Rattle.site_partitions.specs.Moves.{Moves}
 use Rattle.site_partitions.specs.Reaches.{Types, Reaches}
 use Rattle.site_partitions.proofs.Places.{index_is}
-use Rattle.cluster.specs.Fuel.{Burns, IsBrought, left_at, IsFueled, Spent}
+use Rattle.cluster.specs.Faults.{TellsFault}
+use Rattle.cluster.specs.Fuel.{Burns, IsBrought, left_at, IsLit, IsFueled, Spent}
 use Rattle.cluster.proofs.FuelBurns.{burns_less, burns_spent, taken_off}
 use Rattle.cluster.proofs.FuelLines.{lets_burn, is_arming, unwritten, fuel_call}
+use Rattle.cluster.proofs.FusedRuns.{is_of_restart, cut_shown, lit_call}
 use Rattle.cluster.proofs.FuelTold.{was_up, place_of, from_other, waits_in, bound_in, waits_too}
 use Rattle.cluster.proofs.FuelWrites.{can_write, is_took, no_bringing, writes, never_writes, none_brought, uncut, unarmed, own_fault, number_change, number_bringing, number_lets, number_arming}
 
@@ -116,8 +118,8 @@ module _ {S E D : Type 0} (w : Types S E D) (old new : Held E D) (at : PartId) (
 
     -- the line of a call that made so many records, if it wrote at all
     pub fuel_by : (n : ℕ) → (lets_burn l.step ≡ true → Burns (4 * n) (disk_in w.state m.before).left (disk_in w.state m.after).left) → (lets_burn l.step ≡ true → shows_written whole run at l ≡ true → 1 ≤ n)
-        → IsFueled w.state old whole run → IsFueled w.state new whole (l ∷ run)
-    fuel_by n burn write f = fuel_call w.state whole run l old new at m.before same_holds (left_there place) unarms others burnt (over (fuse whole run at) (shows_written whole run at l) l.step unarms disk doubt) f
+        → IsLit w.state new whole (l ∷ run) → IsFueled w.state old whole run → IsFueled w.state new whole (l ∷ run)
+    fuel_by n burn write lit f = fuel_call w.state whole run l old new at m.before same_holds (left_there place) unarms others burnt (over (fuse whole run at) (shows_written whole run at l) l.step unarms disk doubt) lit f
       where
         burnt : lets_burn l.step ≡ true → (other : Durable E D) → Burns (taken_off (shows_written whole run at l)) (left_at w.state old at other) (left_at w.state new at other)
         burnt lets other = by_wrote (shows_written whole run at l) refl
@@ -138,10 +140,12 @@ module _ {S E D : Type 0} (w : Types S E D) (old new : Held E D) (at : PartId) (
     (placed : is_called l.command l.step ≡ true → (asked_by (calls_of run) run l.command l.step).at ≡ at)
     (doubt : (t : TxId) → l.step ≡ step.Unsure t → lead (parts_of run) (calls_of run) t ≡ at) where
   -- the line of a call that took no message, as the store tells it
-  pub fuel_spent : (x : Spent w old new at l.step) → is_took l.step ≡ false → (events : List (Entry E)) → Reaches w old events → shown_lines events ≡ calls_of run → IsFueled w.state old whole run → IsFueled w.state new whole (l ∷ run)
-  fuel_spent x untaken events r shown =
+  pub fuel_spent : (x : Spent w old new at l.step) → is_took l.step ≡ false → (events : List (Entry E)) (r : Reaches w old events) → shown_lines events ≡ calls_of run → (e : Event E) (next : Reaches w new ((record { at = at; event = e }) ∷ events)) → is_of_restart e ≡ false → l.step ≡ step_shown events at e → TellsFault w.state old new at l.step → IsFueled w.state old whole run → IsFueled w.state new whole (l ∷ run)
+  fuel_spent x untaken events r shown e next called is told f =
       fuel_by w old new at x.moves whole run l place placed (subst (λ s. is_arming s ≡ false) x.shows (unarmed whole (calls_of run) at x.run x.event)) (λ q e. own_fault whole (calls_of run) at x.run x.event q (x.shows ∙ e)) doubt n
       (λ lets. let whole_call = done lets in burns_spent (4 * n) _ _ (x.spends.exact whole_call) (x.spends.spared whole_call)) write
+      (lit_call w old new at x.moves place whole run l events r e next called (subst (λ s. is_arming s ≡ false) x.shows (unarmed whole (calls_of run) at x.run x.event)) (λ q k. own_fault whole (calls_of run) at x.run x.event q (x.shows ∙ k)) doubt
+      (λ lets. cut_shown w.kinds old.sites old.parts at events e called (ap lets_burn (sym is) ∙ lets)) (4 * length (records (x.reached.state at) (attempt x.event))) x.spends.most told f.lit) f
     where
       place : IsPlace old.sites old.parts at
       place = place_of w old new at x.moves x.run x.event x.next
@@ -200,10 +204,12 @@ module _ {S E D : Type 0} (w : Types S E D) (old new : Held E D) (at : PartId) (
     write : shows_written whole run at l ≡ true → 1 ≤ count
     write h = writes whole (shown_lines events) at events (r.state at) e (λ c t k. waits_in w.kinds old.sites old.parts events r.state r.is_run at (was_up w old new at m events r e next c) t k) bounds brought (told h)
 
-    pub fuel_counted : Spends w.kinds w.codec w.state m.before m.after (r.state at) e → IsFueled w.state old whole run → IsFueled w.state new whole (l ∷ run)
-    fuel_counted spends = fuel_by w old new at m whole run l place_here placed unarms own_disk doubt count
+    pub fuel_counted : Spends w.kinds w.codec w.state m.before m.after (r.state at) e → is_of_restart e ≡ false → TellsFault w.state old new at l.step → IsFueled w.state old whole run → IsFueled w.state new whole (l ∷ run)
+    fuel_counted spends called tells f = fuel_by w old new at m whole run l place_here placed unarms own_disk doubt count
         (λ lets. let done = uncut whole (calls_of run) at events e (as_shown lets) in burns_spent (4 * count) _ _ (spends.exact done) (spends.spared done)) (λ lets h. write h)
+        (lit_call w old new at m place_here whole run l events r e next called unarms own_disk doubt
+        (λ lets. cut_shown w.kinds old.sites old.parts at events e called (ap lets_burn (sym numbers) ∙ (number_lets whole (calls_of run) at run l.step ∙ lets))) (4 * length (records (r.state at) (attempt e))) spends.most tells f.lit) f
 
     -- a crash or a restart, after which no fuse has fired, wrote nothing
-    pub fuel_plain : can_write e ≡ false → (lets_burn l.step ≡ true → Burns 0 (disk_in w.state m.before).left (disk_in w.state m.after).left) → IsFueled w.state old whole run → IsFueled w.state new whole (l ∷ run)
-    fuel_plain c burn = fuel_by w old new at m whole run l place_here placed unarms own_disk doubt 0 burn (λ lets h. never_writes whole (shown_lines events) at events e c (told h))
+    pub fuel_plain : can_write e ≡ false → (lets_burn l.step ≡ true → Burns 0 (disk_in w.state m.before).left (disk_in w.state m.after).left) → IsLit w.state new whole (l ∷ run) → IsFueled w.state old whole run → IsFueled w.state new whole (l ∷ run)
+    fuel_plain c burn lit = fuel_by w old new at m whole run l place_here placed unarms own_disk doubt 0 burn (λ lets h. never_writes whole (shown_lines events) at events e c (told h)) lit

@@ -18,7 +18,7 @@ use Rattle.world_model.specs.lines.Updates.{lead}
 use Rattle.world_model.proofs.Names.{off}
 use Rattle.partition_core.specs.Durable.{Durable}
 use Rattle.site_partitions.specs.Held.{Held, holds_part}
-use Rattle.cluster.specs.Fuel.{Burns, BurnsBy, BurnsAt, left_at, IsFueled}
+use Rattle.cluster.specs.Fuel.{Burns, BurnsBy, BurnsAt, left_at, IsLit, IsFueled}
 use Rattle.cluster.proofs.FuelBurns.{burns_counted, burns_over, burns_armed, is_unfired, taken_off}
 
 -- the line leaves a fuse in force, if there is one
@@ -55,19 +55,6 @@ pub unwritten : (whole : List world.Line) (run : Run) (p : PartId) (l : script.L
 unwritten whole run p l h = ap (λ b. b && is_written whole (calls_of run) p (asked_by (calls_of run) run l.command l.step) l.step) h
 
 module _ {E D : Type 0} (state : D → DiskState) (whole : List world.Line) (run : Run) (l : script.Line) where
-  -- a line that shows no call, and arms no fuse
-  module _ (c : Held E D) (uncalled : is_called l.command l.step ≡ false) (lets : lets_burn l.step ≡ true) where
-    as_before : (p : PartId) → fuse whole (l ∷ run) p ≡ fuse whole run p
-    as_before p = after_call run p (fuse whole run p) (shows_written whole run p l) l.step lets ∙ ap (λ b. counted b (fuse whole run p)) (unwritten whole run p l uncalled)
-
-    pub fuel_quiet : IsFueled state c whole run → IsFueled state c whole (l ∷ run)
-    fuel_quiet f =
-        let still : (p : PartId) → IsUnfired (fuse whole (l ∷ run) p) = λ p. subst IsUnfired (sym (as_before p)) (f.unfired p) in record {
-          keeps = (still, f.keeps);
-          unfired = still;
-          burns = λ p other. subst (λ o. BurnsAt (holds_part c p) o (left_at state c p other)) (sym (as_before p)) (f.burns p other);
-        }
-
   -- the line of a call of this partition
   module _ (old new : Held E D) (at : PartId) (here : Durable E D) (same : (p : PartId) → holds_part new p ≡ holds_part old p)
       (elsewhere : (p : PartId) → holds_part old p ≡ true → same_part at p ≡ false → (other : Durable E D) → left_at state new p other ≡ left_at state old p other)
@@ -75,7 +62,7 @@ module _ {E D : Type 0} (state : D → DiskState) (whole : List world.Line) (run
       (others : (p : PartId) → same_part at p ≡ false → shows_written whole run p l ≡ false)
       (burnt : lets_burn l.step ≡ true → (other : Durable E D) → Burns (taken_off (shows_written whole run at l)) (left_at state old at other) (left_at state new at other))
       (over : lets_burn l.step ≡ false → fuse_after run at (fuse whole run at) (shows_written whole run at l) l.step ≡ None)
-      (f : IsFueled state old whole run) where
+      (lit : IsLit state new whole (l ∷ run)) (f : IsFueled state old whole run) where
     burns_as : (p : PartId) (b : Bool) (o : Option Fuse) (other : Durable E D) → fuse whole (l ∷ run) p ≡ o → holds_part old p ≡ b → BurnsAt b o (left_at state new p other) → BurnsAt (holds_part new p) (fuse whole (l ∷ run) p) (left_at state new p other)
     burns_as p b o other e h k = subst (λ x. BurnsAt (holds_part new p) x (left_at state new p other)) (sym e) (subst (λ x. BurnsAt x o (left_at state new p other)) (sym (same p ∙ h)) k)
 
@@ -117,13 +104,13 @@ module _ {E D : Type 0} (state : D → DiskState) (whole : List world.Line) (run
     still p = is_unfired (holds_part new p) (fuse whole (l ∷ run) p) (left_at state new p here) (burns_all p here)
 
     pub fuel_call : IsFueled state new whole (l ∷ run)
-    fuel_call = record { keeps = (still, f.keeps); unfired = still; burns = burns_all }
+    fuel_call = record { keeps = (still, f.keeps); unfired = still; burns = burns_all; lit = lit }
 
   -- a fuse is armed
   module _ (old new : Held E D) (at : PartId) (here : Durable E D) (k n : ℕ) (is : l.step ≡ step.Fused at k n) (some : 1 ≤ k) (there : holds_part old at ≡ true) (same : (p : PartId) → holds_part new p ≡ holds_part old p)
       (elsewhere : (p : PartId) → holds_part old p ≡ true → same_part at p ≡ false → (other : Durable E D) → left_at state new p other ≡ left_at state old p other)
       (armed : (other : Durable E D) → left_at state new at other ≡ Some k)
-      (f : IsFueled state old whole run) where
+      (lit_on : IsLit state new whole (l ∷ run)) (f : IsFueled state old whole run) where
     abbrev lit : Fuse
     lit = record { fires_at = k; written = 0 }
 
@@ -153,11 +140,11 @@ module _ {E D : Type 0} (state : D → DiskState) (whole : List world.Line) (run
     alight p = is_unfired (holds_part new p) (fuse whole (l ∷ run) p) (left_at state new p here) (lit_all p here)
 
     pub fuel_armed : IsFueled state new whole (l ∷ run)
-    fuel_armed = record { keeps = (alight, f.keeps); unfired = alight; burns = lit_all }
+    fuel_armed = record { keeps = (alight, f.keeps); unfired = alight; burns = lit_all; lit = lit_on }
 
 -- a cluster whose disks burn down by nothing, with no line
 module _ {E D : Type 0} (state : D → DiskState) (whole : List world.Line) (run : Run) (old new : Held E D) (same : (p : PartId) → holds_part new p ≡ holds_part old p)
-    (stays : (p : PartId) → holds_part old p ≡ true → (other : Durable E D) → Burns 0 (left_at state old p other) (left_at state new p other)) (f : IsFueled state old whole run) where
+    (stays : (p : PartId) → holds_part old p ≡ true → (other : Durable E D) → Burns 0 (left_at state old p other) (left_at state new p other)) (lit_on : IsLit state new whole run) (f : IsFueled state old whole run) where
   by_place : (p : PartId) (other : Durable E D) (b : Bool) → holds_part old p ≡ b → BurnsAt b (fuse whole run p) (left_at state new p other)
   by_place p other true h = subst (λ o. BurnsBy o (left_at state new p other)) (counted_none (fuse whole run p)) (burns_counted true (fuse whole run p) false (left_at state old p other) (left_at state new p other) (subst (λ x. BurnsAt x (fuse whole run p) (left_at state old p other)) h (f.burns p other)) (λ k. stays p h other))
     where
@@ -167,4 +154,4 @@ module _ {E D : Type 0} (state : D → DiskState) (whole : List world.Line) (run
   by_place p other false h = subst (λ x. BurnsAt x (fuse whole run p) (left_at state old p other)) h (f.burns p other)
 
   pub fuel_still : IsFueled state new whole run
-  fuel_still = record { keeps = f.keeps; unfired = f.unfired; burns = λ p other. subst (λ b. BurnsAt b (fuse whole run p) (left_at state new p other)) (sym (same p)) (by_place p other (holds_part old p) refl) }
+  fuel_still = record { keeps = f.keeps; unfired = f.unfired; burns = λ p other. subst (λ b. BurnsAt b (fuse whole run p) (left_at state new p other)) (sym (same p)) (by_place p other (holds_part old p) refl); lit = lit_on }

@@ -1,17 +1,17 @@
 -- What each line of a script's run leaves of its fuses, whatever the whole run will be.
-use Rattle.std.proofs.Common.{◌≡◌, ℕ, ◌≤◌, Bool, true, false, List, [], ◌∷◌, refl, sym, ap, ◌∙◌, subst, Option, None, Some}
+use Rattle.std.proofs.Common.{◌≡◌, ◌≢◌, ℕ, ◌≤◌, Bool, true, false, List, [], ◌∷◌, refl, sym, ap, ◌∙◌, subst, Option, None, Some}
 use Rattle.std.specs.Prelude.{◌||◌, if◌then◌else◌}
 use Rattle.site_vector.specs.declared.ids.PartId.{PartId}
 use Rattle.site_vector.specs.declared.ids.TxId.{TxId}
 use Rattle.site_vector.specs.Ids.{same_part}
 use Rattle.site_vector.specs.Order.{same_part_is}
-use Rattle.disk_core.specs.States.{DiskState}
+use Rattle.disk_core.specs.States.{DiskState, Fails}
 use Rattle.gate_log.specs.Logs.{disk_of}
 use Rattle.gate_log.specs.declared.log.GateLog.{GateLog}
 use Rattle.crdt_core.specs.KindsOf.{Kinds}
 use Rattle.world_model.specs.declared.command.Command.{Command}
 use Rattle.world_model.specs.declared.step.Step.TheVariants as step
-use Rattle.world_model.specs.commands.Cluster.{parts_of}
+use Rattle.world_model.specs.commands.Cluster.{has_cluster, parts_of}
 use Rattle.world_model.specs.rules.Event as event
 use Rattle.world_model.specs.rules.Event.{Event, Entry, Crashed, RestartCut}
 use Rattle.world_model.specs.commands.Fuses.{Fuse, counted, fuse, IsUnfired, HoldsFuses, is_change, is_bringing, shows_written}
@@ -31,12 +31,17 @@ use Rattle.site_partitions.specs.Faults.{CrashesAt, StaysDownAt, ComesUpAt, Arms
 use Rattle.site_partitions.specs.Held.{Held, holds_part}
 use Rattle.site_partitions.specs.Moves.{Moves}
 use Rattle.site_partitions.specs.Reaches.{Types, Reaches}
-use Rattle.cluster.specs.Fuel.{Burns, BurnsAt, AreBrought, left_at, Fueled, Unlit, Spent}
+use Rattle.site_partitions.specs.Sound.{AreUnarmed}
+use Rattle.cluster.specs.Faults.{TellsFault}
+use Rattle.cluster.specs.Fuel.{Burns, BurnsAt, AreBrought, left_at, Fueled, Unlit, TellsCall}
 use Rattle.cluster.proofs.FuelBurns.{burns_same, burns_lowered, burns_still, burns_over}
 use Rattle.cluster.proofs.FuelCalls.{burns_here, left_here, same_holds, left_there, wrote_so, fuel_spent, fuel_counted, fuel_plain}
 use Rattle.cluster.proofs.FuelLines.{lets_burn, after_call, fuel_armed, fuel_still}
 use Rattle.cluster.proofs.FuelTakes.{are_brought}
-use Rattle.cluster.proofs.FuelWrites.{is_took, no_bringing}
+use Rattle.cluster.proofs.FuelTold.{place_of}
+use Rattle.cluster.proofs.FuelWrites.{is_took, no_bringing, number_lets}
+use Rattle.cluster.proofs.FusedLines.{lit_idle, lit_made}
+use Rattle.cluster.proofs.FusedRuns.{is_of_restart, lit_crashed, lit_stopped, lit_up, lit_armed, lit_revived}
 
 -- the line shows of no partition that it wrote, and ends no fuse
 pub record IsIdle (l : script.Line) : Type 0 where
@@ -87,12 +92,13 @@ unlit_failed run number asked at u whole =
 
 module _ {E D : Type 0} (state : D → DiskState) where
   -- a cluster is made
-  pub fueled_made : (c : Held E D) (run : Run) (l : script.Line) → IsIdle l → Unlit run → Fueled state c (l ∷ run) []
-  fueled_made c run l idle u whole b =
+  pub fueled_made : (c : Held E D) (run : Run) (l : script.Line) → IsIdle l → Unlit run → has_cluster run ≡ false → AreUnarmed state c → Fueled state c (l ∷ run) []
+  fueled_made c run l idle u lacks none whole b =
       let x = unlit_next run l idle u whole in record {
         keeps = x.keeps;
         unfired = λ p. none_fires _ (x.none p);
         burns = λ p other. subst (λ o. BurnsAt (holds_part c p) o (left_at state c p other)) (sym (x.none p)) (burns_over (holds_part c p) (left_at state c p other));
+        lit = lit_made state c whole run l lacks idle.lets none;
       }
 
   -- a line that is idle, over a cluster that stays as it is
@@ -103,44 +109,59 @@ module _ {E D : Type 0} (state : D → DiskState) where
         keeps = (unfired, x.keeps);
         unfired = unfired;
         burns = λ p other. subst (λ o. BurnsAt (holds_part c p) o (left_at state c p other)) (sym (idle_fuse whole run l idle p)) (x.burns p other);
+        lit = lit_idle state c whole run l (idle_fuse whole run l idle) idle.lets x.lit;
       }
 
 module _ {S E D : Type 0} (w : Types S E D) (old new : Held E D) (at : PartId) (run : Run) (l : script.Line) (events : List (Entry E)) (r : Reaches w old events) (shown : shown_lines events ≡ calls_of run)
     (placed : is_called l.command l.step ≡ true → (asked_by (calls_of run) run l.command l.step).at ≡ at)
     (doubt : (t : TxId) → l.step ≡ step.Unsure t → lead (parts_of run) (calls_of run) t ≡ at) where
   -- a call of a session
-  pub fueled_spent : (later : List (Entry E)) → ((whole : List world.Line) → AreBrought whole later → AreBrought whole events) → Spent w old new at l.step → is_took l.step ≡ false → Fueled w.state old run events → Fueled w.state new (l ∷ run) later
-  fueled_spent later back x untaken f whole b = fuel_spent w old new at whole run l placed doubt x untaken events r shown (f whole (back whole b))
+  pub fueled_spent : (later : List (Entry E)) → ((whole : List world.Line) → AreBrought whole later → AreBrought whole events) → TellsCall w old new at l.step → is_took l.step ≡ false → (e : Event E) → Reaches w new ((record { at = at; event = e }) ∷ events) → is_of_restart e ≡ false → l.step ≡ step_shown events at e → Fueled w.state old run events → Fueled w.state new (l ∷ run) later
+  fueled_spent later back x untaken e next called is f whole b = fuel_spent w old new at whole run l placed doubt x.1 untaken events r shown e next called is x.0 (f whole (back whole b))
 
   module _ (m : Moves w.state old new at) (e : Event E) (next : Reaches w new ((record { at = at; event = e }) ∷ events)) (numbers : numbered run l.step ≡ step_shown events at e)
       (asks : is_called l.command l.step ≡ true → (asked_by (calls_of run) run l.command l.step).call ≡ call_of e) where
     -- a call after the run itself, of no session's or of one
-    pub fueled_call : Spends w.kinds w.codec w.state m.before m.after (r.state at) e → Fueled w.state old run events → Fueled w.state new (l ∷ run) ((record { at = at; event = e }) ∷ events)
-    fueled_call spends f whole b = fuel_counted w old new at whole run l placed doubt m events r shown e next numbers b.0 asks spends (f whole b.1)
+    pub fueled_call : Spends w.kinds w.codec w.state m.before m.after (r.state at) e → is_of_restart e ≡ false → TellsFault w.state old new at l.step → Fueled w.state old run events → Fueled w.state new (l ∷ run) ((record { at = at; event = e }) ∷ events)
+    fueled_call spends called tells f whole b = fuel_counted w old new at whole run l placed doubt m events r shown e next numbers b.0 asks spends called tells (f whole b.1)
+
+  place_by : (m : Moves w.state old new at) (e : Event E) → Reaches w new ((record { at = at; event = e }) ∷ events) → IsPlace old.sites old.parts at
+  place_by m e next = place_of w old new at m events e next
 
   pub fueled_crashed : CrashesAt w old new at → numbered run l.step ≡ step.Crashed at → (is_called l.command l.step ≡ true → (asked_by (calls_of run) run l.command l.step).call ≡ world.Crash) → Fueled w.state old run events → Fueled w.state new (l ∷ run) ((record { at = at; event = Crashed }) ∷ events)
-  fueled_crashed k numbers asks f whole b = fuel_plain w old new at whole run l placed doubt k.moves events r shown Crashed (k.goes events r) numbers b.0 asks refl
-      (λ lets. burns_same _ _ (ap (λ (g : GateLog D). (w.state (disk_of g)).left) k.disk)) (f whole b.1)
+  fueled_crashed k numbers asks f whole b =
+      let x = f whole b.1 in
+      let lets = sym (number_lets whole (calls_of run) at run l.step) ∙ ap lets_burn numbers in
+      fuel_plain w old new at whole run l placed doubt k.moves events r shown Crashed (k.goes events r) numbers b.0 asks refl
+      (λ lets. burns_same _ _ (ap (λ (g : GateLog D). (w.state (disk_of g)).left) k.disk))
+      (lit_crashed w old new at k.moves (place_by k.moves Crashed (k.goes events r)) whole run l lets k.disk k.down x.lit) x
 
-  pub fueled_stopped : StaysDownAt w old new at → numbered run l.step ≡ step.Disk at → l.step ≡ step.Disk at → (is_called l.command l.step ≡ true → (asked_by (calls_of run) run l.command l.step).call ≡ world.Restart) → Fueled w.state old run events → Fueled w.state new (l ∷ run) ((record { at = at; event = RestartCut }) ∷ events)
-  fueled_stopped k numbers is asks f whole b = fuel_plain w old new at whole run l placed doubt k.moves events r shown RestartCut (k.goes events r) numbers b.0 asks refl
-      (λ lets. never _ lets (ap lets_burn is)) (f whole b.1)
+  pub fueled_stopped : (k : StaysDownAt w old new at) → Fails (disk_in w.state k.moves.before) (disk_in w.state k.moves.after) → (disk_in w.state k.moves.before).left ≢ Some 0 → numbered run l.step ≡ step.Disk at → l.step ≡ step.Disk at → (is_called l.command l.step ≡ true → (asked_by (calls_of run) run l.command l.step).call ≡ world.Restart) → Fueled w.state old run events → Fueled w.state new (l ∷ run) ((record { at = at; event = RestartCut }) ∷ events)
+  fueled_stopped k fails unfired numbers is asks f whole b =
+      let x = f whole b.1 in fuel_plain w old new at whole run l placed doubt k.moves events r shown RestartCut (k.goes events r) numbers b.0 asks refl
+      (λ lets. never _ lets (ap lets_burn is))
+      (lit_stopped w old new at k.moves (place_by k.moves RestartCut (k.goes events r)) whole run l is 3 k.left fails k.down unfired x.lit) x
 
   pub fueled_up : (x : Restarted) → ComesUpAt w old new at x → numbered run l.step ≡ step.Restarted at x.now x.bounds x.decided x.pending → (is_called l.command l.step ≡ true → (asked_by (calls_of run) run l.command l.step).call ≡ world.Restart)
       → Fueled w.state old run events → Fueled w.state new (l ∷ run) ((record { at = at; event = event.Restarted x.now x.bounds x.decided x.pending }) ∷ events)
-  fueled_up x k numbers asks f whole b = fuel_plain w old new at whole run l placed doubt k.moves events r shown (event.Restarted x.now x.bounds x.decided x.pending) (k.goes events r) numbers b.0 asks refl
-      (λ lets. burns_lowered 3 _ _ k.left k.unfired) (f whole b.1)
+  fueled_up x k numbers asks f whole b =
+      let y = f whole b.1 in
+      let lets = sym (number_lets whole (calls_of run) at run l.step) ∙ ap lets_burn numbers in
+      fuel_plain w old new at whole run l placed doubt k.moves events r shown (event.Restarted x.now x.bounds x.decided x.pending) (k.goes events r) numbers b.0 asks refl
+      (λ lets. burns_lowered 3 _ _ k.left k.unfired)
+      (lit_up w old new at k.moves (place_by k.moves (event.Restarted x.now x.bounds x.decided x.pending) (k.goes events r)) whole run l lets 3 k.left k.unfired y.lit) y
 
 module _ {S E D : Type 0} (w : Types S E D) (old new : Held E D) (at : PartId) (run : Run) (events : List (Entry E)) (place : IsPlace old.sites old.parts at) (there : holds_part old at ≡ true) where
   -- a fuse is armed
   pub fueled_armed : (l : script.Line) (k n : ℕ) → l.step ≡ step.Fused at k n → 1 ≤ k → ArmsAt w old new at k n → Fueled w.state old run events → Fueled w.state new (l ∷ run) events
   fueled_armed l k n is some a f whole b =
       fuel_armed w.state whole run l old new at a.moves.before k n is some there (same_holds w old new at a.moves) (left_there w old new at a.moves place)
-      (λ other. left_here w old new at a.moves (Some k) (ap (λ (d : DiskState). d.left) a.armed) other there) (f whole b)
+      (λ other. left_here w old new at a.moves (Some k) (ap (λ (d : DiskState). d.left) a.armed) other there)
+      (lit_armed w old new at a.moves place whole run l k n is (f whole b).lit) (f whole b)
 
   -- a fuse that has fired is taken away: none that is in force
   pub fueled_revived : RevivesAt w old new at → Fueled w.state old run events → Fueled w.state new run events
-  fueled_revived v f whole b = fuel_still w.state whole run old new (same_holds w old new at v.moves) stays (f whole b)
+  fueled_revived v f whole b = fuel_still w.state whole run old new (same_holds w old new at v.moves) stays (lit_revived w old new at v.moves place whole run v.fired v.burning (f whole b).lit) (f whole b)
     where
       here : (other : Durable E D) → Burns 0 (left_at w.state old at other) (left_at w.state new at other)
       here other = burns_here w old new at v.moves 0 (burns_still _ _ (λ k. ap (λ (d : Durable E D). (disk_in w.state d).left) (v.burning k))) other

@@ -14,7 +14,7 @@ use Rattle.txn_session.specs.Calls.{Call, entries}
 use Rattle.site_partitions.specs.Held.{Held}
 use Rattle.site_partitions.specs.Reaches.{Types}
 use Rattle.site_partitions.specs.Answers.{Asks, GoesOn, Calls}
-use Rattle.cluster.specs.Faults.{FaultsRose, TellsFault}
+use Rattle.cluster.specs.Faults.{HasFailed, TellsFault}
 use Rattle.cluster.specs.Fuel.{Spent, TellsCall}
 use Rattle.cluster.specs.Sees.{refusal_line, FailedAs, Sees}
 use Rattle.cluster.proofs.Seeing.{refusal_is, line_tells}
@@ -64,9 +64,9 @@ module _ {S E D : Type 0} (types : Types S E D) where
     line_spent X Shows fault faults (call.Full room) line g f calls o = refused_spent (HasNoRoom room) g.1 line f calls o
     line_spent X Shows fault faults (call.Refused why) line g f calls o = refused_spent (cause why) g line f calls o
 
-    pub line_tells_call : {A : Type 0} (X : Type 0) (Shows : A → Event E → Type 0) (fault : Step) → FaultsSo Shows fault → (FaultsRose types.state old new at → TellsFault types.state old new at fault) → (error : DurableError) (line : Step) → Calls types old new Given at ask Shows (Err error) → FailedAs {X = X} at (tx_asked ask) (number_asked ask) fault error (Ok line) → (calls : List (Call E)) → On calls → TellsCall types old new at line
+    pub line_tells_call : {A : Type 0} (X : Type 0) (Shows : A → Event E → Type 0) (fault : Step) → FaultsSo Shows fault → (HasFailed types.state old new at → TellsFault types.state old new at fault) → (error : DurableError) (line : Step) → Calls types old new Given at ask Shows (Err error) → FailedAs {X = X} at (tx_asked ask) (number_asked ask) fault error (Ok line) → (calls : List (Call E)) → On calls → TellsCall types old new at line
     line_tells_call X Shows fault faults tells error line g f calls o = (line_tells types old new Given at ask pass number X Shows fault tells error line g f, line_spent X Shows fault faults error line g f calls o)
 
-    pub failed_tells_call : {A X : Type 0} (Shows : A → Event E → Type 0) (fault : Step) → FaultsSo Shows fault → (FaultsRose types.state old new at → TellsFault types.state old new at fault) → (error : DurableError) (r : Result Step X) → Calls types old new Given at ask Shows (Err error) → FailedAs at (tx_asked ask) (number_asked ask) fault error r → (Q : Step → Type 0) → ((line : Step) → ((calls : List (Call E)) → On calls → TellsCall types old new at line) → Q line) → IfOk r Q
+    pub failed_tells_call : {A X : Type 0} (Shows : A → Event E → Type 0) (fault : Step) → FaultsSo Shows fault → (HasFailed types.state old new at → TellsFault types.state old new at fault) → (error : DurableError) (r : Result Step X) → Calls types old new Given at ask Shows (Err error) → FailedAs at (tx_asked ask) (number_asked ask) fault error r → (Q : Step → Type 0) → ((line : Step) → ((calls : List (Call E)) → On calls → TellsCall types old new at line) → Q line) → IfOk r Q
     failed_tells_call {A} {X} Shows fault faults tells error (Ok line) g f Q q = q line (λ calls o. line_tells_call X Shows fault faults tells error line g f calls o)
     failed_tells_call {A} {X} Shows fault faults tells error (Err x) g f Q q = tt

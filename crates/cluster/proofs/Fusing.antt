@@ -1,5 +1,5 @@
 -- What commands do to the fuses of partitions.
-use Rattle.std.proofs.Common.{◌≡◌, ℕ, true, false, refl, sym, ap, ◌∙◌, subst, true≢false, Option, None, Some}
+use Rattle.std.proofs.Common.{◌≡◌, ◌≢◌, ℕ, zero, suc, true, false, refl, sym, ap, ◌∙◌, subst, true≢false, Option, None, Some}
 use Rattle.std.specs.Prelude.{Result, Ok, Err, IfOk}
 use Rattle.site_vector.specs.declared.ids.PartId.{PartId}
 use Rattle.disk_core.specs.States.{DiskState, fewer}
@@ -12,7 +12,9 @@ use Rattle.site_partitions.specs.Reaches.{Types}
 use Rattle.world_model.specs.declared.command.Command.{Command}
 use Rattle.world_model.specs.declared.command.Command.TheVariants as command
 use Rattle.cluster.specs.Built.{is_of_post, is_of_fates, is_of_faults}
-use Rattle.cluster.specs.Fuel.{left_at, StaysUnarmed, SetsFuse}
+use Rattle.cluster.specs.Fuel.{left_at, IsUnfiredAt, StaysUnarmed, SetsFuse}
+use Rattle.cluster.proofs.Ups.{there_now}
+use Rattle.world_model.specs.lines.Places.{IsPlace}
 use Rattle.cluster.proofs.FuelCalls.{at_set, left_here}
 
 -- what is so whatever the value
@@ -37,6 +39,22 @@ module _ {S E D : Type 0} (w : Types S E D) (old new : Held E D) (at : PartId) w
 
   taken : RevivesAt w old new at → (other : Durable E D) → left_at w.state old at other ≡ Some 0 → left_at w.state new at other ≡ None
   taken v other e = left_by (λ x y. x ≡ Some 0 → y ≡ None) v.moves (λ h. ap (λ (d : DiskState). d.left) (v.fired h)) other e
+
+none_some : (n : ℕ) → None ≡ Some n → ⊥
+none_some n h = absurd cc
+
+some_zero : (n : ℕ) → Some (suc n) ≡ Some zero → ⊥
+some_zero n h = absurd cc
+
+module _ {S E D : Type 0} (w : Types S E D) (old new : Held E D) (at : PartId) (v : RevivesAt w old new at) where
+  unfired_after : (o : Option ℕ) → (disk_in w.state v.moves.before).left ≡ o → (disk_in w.state v.moves.after).left ≢ Some 0
+  unfired_after (Some zero) e k = none_some zero (sym (ap (λ (d : DiskState). d.left) (v.fired e)) ∙ k)
+  unfired_after (Some (suc n)) e k = some_zero n (sym e ∙ (sym (ap (λ (t : Durable E D). (disk_in w.state t).left) (v.burning (λ z. some_zero n (sym e ∙ z)))) ∙ k))
+  unfired_after None e k = none_some zero (sym e ∙ (sym (ap (λ (t : Durable E D). (disk_in w.state t).left) (v.burning (λ z. none_some zero (sym e ∙ z)))) ∙ k))
+
+  -- after that none has fired
+  pub unfired_at : IsPlace new.sites new.parts at → IsUnfiredAt w.state new at
+  unfired_at place t is = subst (λ x. (disk_in w.state x).left ≢ Some 0) (sym (there_now w old new at v.moves place t) ∙ is t) (unfired_after (disk_in w.state v.moves.before).left refl)
 
 -- a fuse that has fired is taken away before a restart
 pub taken_away : {S E D : Type 0} (w : Types S E D) (old mid new : Held E D) (at : PartId) → RevivesAt w old mid at → StaysUnarmed w.state mid new at → SetsFuse w.state (command.Restart at) old new

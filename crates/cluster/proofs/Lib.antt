@@ -7,6 +7,9 @@ pub mod FuelTold
 pub mod FuelCalls
 pub mod FuelStays
 pub mod Fusing
+pub mod FusedLines
+pub mod FusedRuns
+pub mod Fused
 pub mod Faulted
 pub mod Worlds
 pub mod Ups

@@ -29,6 +29,8 @@ use Rattle.cluster.specs.Sees.{Sees, sees_legal}
 use Rattle.cluster.proofs.Doubting.{decided_at}
 use Rattle.cluster.proofs.FuelCalls.{asked_at, asked_call}
 use Rattle.cluster.proofs.FuelStays.{fueled_call}
+use Rattle.cluster.specs.Faults.{TellsFault}
+use Rattle.cluster.proofs.FusedRuns.{is_of_restart}
 use Rattle.cluster.proofs.Standing.{SameFor, stands_still}
 use Rattle.cluster.proofs.Turning.{IsSilentFor, asked_lines, has_other_lines, depends_other, holds_other}
 
@@ -77,21 +79,21 @@ module _ {S E D : Type 0} (types : Types S E D) (c : LiveState E D) (run : Run) 
   abbrev line : script.Line
   line = record { number = number; command = Some cmd; step = s }
 
-  fuel_next : (m : Moves types.state c.sites held at) → Spends types.kinds types.codec types.state m.before m.after (r.sees.reached.state at) e → Fueled types.state held ((record { number = number; command = Some cmd; step = s }) ∷ run) (entries later)
-  fuel_next m spends = fueled_call types c.sites held at run line (entries r.calls) r.sees.reached r.shown
+  fuel_next : (m : Moves types.state c.sites held at) → Spends types.kinds types.codec types.state m.before m.after (r.sees.reached.state at) e → is_of_restart e ≡ false → TellsFault types.state c.sites held at s → Fueled types.state held ((record { number = number; command = Some cmd; step = s }) ∷ run) (entries later)
+  fuel_next m spends no_restart tells = fueled_call types c.sites held at run line (entries r.calls) r.sees.reached r.shown
       (λ called. asked_at run line (record { at = at; call = call_of e; step = step_shown (entries r.calls) at e }) lines_are called)
       (λ u k. decided_at types c run r held size at 0 e sees u (sym numbers ∙ ap (numbered run) k))
       m e sees.reached numbers
       (λ called. asked_call run line (record { at = at; call = call_of e; step = step_shown (entries r.calls) at e }) lines_are called)
-      spends r.fuel
+      spends no_restart tells r.fuel
 
   -- the cluster after it, and the calls that stand then
   pub record Posted : Type 0 where
     pub reached : ReachedLive types (record { sites = held; sessions = c.sessions }) ((record { number = number; command = Some cmd; step = s }) ∷ run)
     pub calls_are : reached.calls ≡ later
 
-  pub posted : (m : Moves types.state c.sites held at) → Spends types.kinds types.codec types.state m.before m.after (r.sees.reached.state at) e → Posted
-  posted m spends = record {
+  pub posted : (m : Moves types.state c.sites held at) → Spends types.kinds types.codec types.state m.before m.after (r.sees.reached.state at) e → is_of_restart e ≡ false → TellsFault types.state c.sites held at s → Posted
+  posted m spends no_restart tells = record {
     reached = record {
       has = ap (λ x. x || has_cluster run) told.cluster ∙ r.has;
       sites = size.sites_are ∙ (r.sites ∙ sym (told.sites (sites_of run)));
@@ -100,7 +102,7 @@ module _ {S E D : Type 0} (types : Types S E D) (c : LiveState E D) (run : Run) 
       sees = sees;
       shown = shown_next;
       own = subst (λ n. HandsOwn n (calls_of ((record { number = number; command = Some cmd; step = s }) ∷ run))) (sym (told.sites (sites_of run))) (subst (λ ls. HandsOwn (sites_of run) ls) (sym lines_are) (own, r.own));
-      fuel = fuel_next m spends;
+      fuel = fuel_next m spends no_restart tells;
       each = λ who. stands_still ((record { number = number; command = Some cmd; step = s }) ∷ run) run later r.calls who (session_in c.sessions who) (same_next who)
           (λ x is h. holds_other types.kinds held.sites held.parts (called 0 at e) r.calls x legal (silent x.name) h) (r.each who);
       count = told.count (session_count run) ∙ r.count;

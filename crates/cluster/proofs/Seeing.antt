@@ -1,6 +1,6 @@
 -- A call of a cluster as the trait of stores tells it: nobody acted meanwhile, and the answer is the line of its event.
-use Rattle.std.proofs.Common.{◌≡◌, ℕ, Bool, true, false, List, [], ◌∷◌, refl, sym, ap, ◌∙◌, subst, true≢false, inr, Option, None, Some}
-use Rattle.std.specs.Prelude.{◌&&◌, IfSome, IfOk, IfErr, Result, Ok, Err}
+use Rattle.std.proofs.Common.{◌≡◌, ℕ, ◌≤◌, Bool, true, false, List, [], ◌∷◌, refl, sym, ap, ◌∙◌, subst, true≢false, inr, Option, None, Some, arith}
+use Rattle.std.specs.Prelude.{◌&&◌, IfSome, IfOk, IfErr, Result, Ok, Err, ⊤}
 use Rattle.std.proofs.lemmas.Bool.{and_parts}
 use Rattle.site_vector.specs.declared.ids.PartId.{PartId}
 use Rattle.site_vector.specs.declared.ids.TxId.{TxId}
@@ -12,7 +12,7 @@ use Rattle.crdt_core.specs.KindsOf.{Kinds}
 use Rattle.world_model.specs.declared.step.Step.{Step}
 use Rattle.world_model.specs.declared.step.Step.TheVariants as step
 use Rattle.world_model.specs.rules.Asking.{MayCall, asked_by, is_own_word}
-use Rattle.world_model.specs.rules.Event.{Ask, AskUpdate, Refusal, IsDown, IsBadOp, HasNoRoom, Event, Updated, Crashed, RestartCut, Restarted, Refused, Opened, Cut, Entry, attempt}
+use Rattle.world_model.specs.rules.Event.{Ask, AskUpdate, Refusal, IsDown, IsBadOp, HasGap, IsRepeat, HasNoRoom, Event, Updated, Crashed, RestartCut, Restarted, Refused, Opened, Cut, Entry, attempt}
 use Rattle.world_model.specs.rules.Lines.{session_of, refusal_shown, fault_shown, step_shown, tx_asked, number_asked}
 use Rattle.world_model.specs.rules.Partition.{PartState, PartStep, IsRefused}
 use Rattle.world_model.specs.lines.Places.{IsPlace}
@@ -25,16 +25,44 @@ use Rattle.partition_core.specs.declared.durable.DurableError.TheVariants as cal
 use Rattle.partition_core.specs.Answers.{cause}
 use Rattle.partition_core.specs.Moments.{AnySuch, IsCutOff}
 use Rattle.txn_session.specs.Calls as session
-use Rattle.txn_session.specs.Calls.{Call, entries, caller_of, effect_made, Within}
+use Rattle.txn_session.specs.Calls.{Call, entries, caller_of, effect_made, Within, handed_as}
+use Rattle.txn_session.specs.Numbers.{IsLeast, Bears}
 use Rattle.site_partitions.specs.Held.{Held}
 use Rattle.site_partitions.specs.Reaches.{Types, Reaches, MayAsk, HasBegun}
 use Rattle.site_partitions.specs.Answers.{Asks, GoesOn, FindsNoRoom, Calls}
-use Rattle.cluster.specs.Faults.{FaultsRose, TellsFault}
+use Rattle.cluster.specs.Faults.{HasFailed, TellsFault}
 use Rattle.cluster.specs.Same.{SameCluster, same_refl}
 use Rattle.cluster.specs.Sees.{refusal_line, FailedAs, AllBear, Sees, no_number}
-use Rattle.cluster.proofs.Faulted.{same_of, rose_of}
+use Rattle.cluster.proofs.Faulted.{same_of, failed_of}
 use Rattle.cluster.specs.Rooms.{FindsRoom, IsRoomAt}
 use Rattle.cluster.proofs.Rooms.{has_room, cause_has_room, quiet, rooms_on, rooms_more, passes}
+
+-- all calls bear the least number
+pub least_zero : IsLeast (λ n. true) 0
+least_zero = (refl, λ n h. omega arith)
+
+bears_zero : (number : Option ℕ) → IfSome number (λ n. 0 ≡ n) → Bears (λ n. true) number 0
+bears_zero None b = least_zero
+bears_zero (Some n) b = b
+
+-- who numbers messages and reports bears its own number in a line
+renumbered : (p : PartId) (tx : TxId) (own number : ℕ) (why : Refusal) → refusal_line p tx number why ≡ handed_as number (refusal_line p tx own why)
+renumbered p tx own number (HasGap n) = refl
+renumbered p tx own number (IsRepeat n) = refl
+renumbered p tx own number other = refl
+
+-- so a call that failed has a line by the sender's number too
+pub failed_own : (X : Type 0) (p : PartId) (tx : TxId) (own number : ℕ) (fault : Step) → handed_as number fault ≡ fault → (error : DurableError) (line : Step) → FailedAs {X = X} p tx number fault error (Ok line) → (told : Step) × FailedAs {X = X} p tx own fault error (Ok told) × (line ≡ handed_as number told)
+failed_own X p tx own number fault same call.NoMemory line f = absurd f
+failed_own X p tx own number fault same call.Down line f = (step.Down p, refl, f)
+failed_own X p tx own number fault same call.Disk line f = (fault, refl, f ∙ sym same)
+failed_own X p tx own number fault same (call.Full room) line f = (step.Full room, refl, f)
+failed_own X p tx own number fault same (call.Refused why) line f = (refusal_line p tx own (cause why), refl, f ∙ renumbered p tx own number (cause why))
+
+-- what is said of a result, where it is known which it is
+pub if_each : {A X : Type 0} (Q : A → Type 0) (r : Result A X) → ((x : A) → r ≡ Ok x → Q x) → IfOk r Q
+if_each Q (Ok x) f = f x refl
+if_each Q (Err e) f = tt
 
 -- the line of a refusal names what was asked of
 pub refusal_is : {E : Type 0} (run : List (Entry E)) (p : PartId) (ask : Ask E) (why : Refusal) → refusal_shown run p ask why ≡ refusal_line p (tx_asked ask) (number_asked ask) why
@@ -102,7 +130,7 @@ module _ {S E D : Type 0} (types : Types S E D) where
           others = tt;
           by = 0;
           held = refl;
-          bears = b;
+          bears = bears_zero number b;
           event = x.event;
           asked = x.asked;
           own_word = l.1;
@@ -174,10 +202,10 @@ module _ {S E D : Type 0} (types : Types S E D) where
     no_fault tx n answer.BadOp = tt
     no_fault tx n other = tt
 
-    pub failed_tells : {A X : Type 0} (Shows : A → Event E → Type 0) (fault : Step) → (FaultsRose types.state old new at → TellsFault types.state old new at fault) → (error : DurableError) (r : Result Step X) → Calls types old new Given at ask Shows (Err error) → FailedAs at (tx_asked ask) (number_asked ask) fault error r → IfOk r (λ line. TellsFault types.state old new at line)
+    pub failed_tells : {A X : Type 0} (Shows : A → Event E → Type 0) (fault : Step) → (HasFailed types.state old new at → TellsFault types.state old new at fault) → (error : DurableError) (r : Result Step X) → Calls types old new Given at ask Shows (Err error) → FailedAs at (tx_asked ask) (number_asked ask) fault error r → IfOk r (λ line. TellsFault types.state old new at line)
     failed_tells Shows fault tells call.NoMemory (Ok line) g f = absurd f
     failed_tells Shows fault tells call.Down (Ok line) g f = subst (TellsFault types.state old new at) (sym f) tt
-    failed_tells Shows fault tells call.Disk (Ok line) g f = subst (TellsFault types.state old new at) (sym f) (tells (rose_of types.state old new at g.0.moves g.1.rose))
+    failed_tells Shows fault tells call.Disk (Ok line) g f = subst (TellsFault types.state old new at) (sym f) (tells (failed_of types.state old new at g.0.moves g.1))
     failed_tells Shows fault tells (call.Full room) (Ok line) g f = subst (TellsFault types.state old new at) (sym f) tt
     failed_tells Shows fault tells (call.Refused why) (Ok line) g f = subst (TellsFault types.state old new at) (sym f) (no_fault (tx_asked ask) (number_asked ask) why)
     failed_tells Shows fault tells error (Err x) g f = tt
@@ -186,7 +214,7 @@ module _ {S E D : Type 0} (types : Types S E D) where
     pub failed_line : {A : Type 0} (X : Type 0) (Shows : A → Event E → Type 0) (fault : Step) → FaultsAs Shows fault → (error : DurableError) (line : Step) → Calls types old new Given at ask Shows (Err error) → FailedAs {X = X} at (tx_asked ask) (number_asked ask) fault error (Ok line) → SeesNext line
     failed_line X Shows fault faults error line g f = let r : Result Step X = Ok line in failed_on Shows fault faults error r g f SeesNext (λ l q. q)
 
-    pub line_tells : {A : Type 0} (X : Type 0) (Shows : A → Event E → Type 0) (fault : Step) → (FaultsRose types.state old new at → TellsFault types.state old new at fault) → (error : DurableError) (line : Step) → Calls types old new Given at ask Shows (Err error) → FailedAs {X = X} at (tx_asked ask) (number_asked ask) fault error (Ok line) → TellsFault types.state old new at line
+    pub line_tells : {A : Type 0} (X : Type 0) (Shows : A → Event E → Type 0) (fault : Step) → (HasFailed types.state old new at → TellsFault types.state old new at fault) → (error : DurableError) (line : Step) → Calls types old new Given at ask Shows (Err error) → FailedAs {X = X} at (tx_asked ask) (number_asked ask) fault error (Ok line) → TellsFault types.state old new at line
     line_tells X Shows fault tells error line g f = let r : Result Step X = Ok line in failed_tells Shows fault tells error r g f
 
     pub error_stays : {A : Type 0} (X : Type 0) (Shows : A → Event E → Type 0) (fault : Step) (error : DurableError) (x : X) → Calls types old new Given at ask Shows (Err error) → FailedAs {X = X} at (tx_asked ask) (number_asked ask) fault error (Err x) → (calls : List (Call E)) → Sees types old calls → session.Stays (λ s (p : P) r. Sees types s r) (λ (p : P) n. true) new pass calls
@@ -202,14 +230,15 @@ module _ {S E D : Type 0} (types : Types S E D) where
     called_same Shows (Err (call.Refused why)) g = same_of types.state old new at g.moves
 
     -- what was done, whatever line it has
-    pub did_on : (event : Event E) → has_room event ≡ true → GoesOn types old new (Asks types old Given at ask) at ask (λ e. e ≡ event) → (calls : List (Call E)) → Sees types old calls → MayCall old.sites old.parts (entries calls) at ask → Given (entries calls)
-        → session.Did (λ s (p : P) r. Sees types s r) (λ (p : P) n. true) new pass calls at event
-    did_on event room g calls s may given =
+    pub did_on : (count : List (Entry E) → PartId → ℕ) (named : ℕ) (event : Event E) → has_room event ≡ true → GoesOn types old new (Asks types old Given at ask) at ask (λ e. e ≡ event) → (calls : List (Call E)) → Sees types old calls → MayCall old.sites old.parts (entries calls) at ask → Given (entries calls)
+        → session.Did (λ s (p : P) r. Sees types s r) (λ (p : P) n. true) count (λ own n. ⊤) new pass calls at event named
+    did_on count named event room g calls s may given =
         let x = (g.goes (entries calls) s.reached (may, given)).0 in record {
           more = [];
           others = tt;
           by = 0;
-          held = refl;
+          least = least_zero;
+          named = tt;
           seen = record { reached = subst (λ e. Reaches types new ((record { at = at; event = e }) ∷ entries calls)) x.shows x.reached; one_caller = (refl, s.one_caller); rooms = rooms_more types old new (same_of types.state old new at g.moves) (entries calls) at event room s.rooms };
         }
 
@@ -223,6 +252,27 @@ module _ {S E D : Type 0} (types : Types S E D) where
     -- what such an event tells, where some run allows the call
     pub fact_of : (F : Type 0) (Shows : Event E → Type 0) → ((e : Event E) → Shows e → F) → GoesOn types old new (Asks types old Given at ask) at ask Shows → session.MayCall (λ s (p : P) l. Sees types s l) (λ (p : P) n. true) old.sites old.parts old pass number at ask → ((calls : List (Call E)) → Given (entries calls)) → F
     fact_of F Shows f g m given = let x = (g.goes (entries m.run) m.seen.reached (m.allowed.may, given m.run)).0 in f x.event x.shows
+
+  module _ {P : Type 0} (old new : Held E D) (Given : List (Entry E) → Type 0) (at : PartId) (ask : Ask E) (pass : P) where
+    -- what was handed on by a number, whatever its own is
+    pub hands_on : (event : Event E) → GoesOn types old new (Asks types old Given at ask) at ask (λ e. e ≡ event) → (told line : Step) (handed : ℕ) → line ≡ handed_as handed told → ((calls : List (Call E)) → told ≡ step_shown (entries calls) at event) → is_own_word (attempt event) && has_room event ≡ true → (calls : List (Call E)) → Sees types old calls → MayCall old.sites old.parts (entries calls) at ask → Given (entries calls) → session.HandsOn (λ s (p : P) r. Sees types s r) (λ (p : P) n. true) new pass calls at ask handed line
+    hands_on event g told line handed is shown own calls s may given = record { line = told; goes = exact_on old new Given at ask pass None event g told shown own calls s may given tt; answers = is }
+
+    -- or wasn't
+    pub hands_failed : {A : Type 0} (X : Type 0) (Shows : A → Event E → Type 0) (fault : Step) → FaultsAs {P = P} old new Given at ask pass None Shows fault → (error : DurableError) (line : Step) (handed : ℕ) → handed_as handed fault ≡ fault → Calls types old new Given at ask Shows (Err error) → FailedAs {X = X} at (tx_asked ask) handed fault error (Ok line) → (calls : List (Call E)) → Sees types old calls → MayCall old.sites old.parts (entries calls) at ask → Given (entries calls) → session.HandsOn (λ s (p : P) r. Sees types s r) (λ (p : P) n. true) new pass calls at ask handed line
+    hands_failed X Shows fault faults error line handed same g f calls s may given =
+        let x = failed_own X at (tx_asked ask) (number_asked ask) handed fault same error line f in
+        record { line = x.0; goes = failed_line old new Given at ask pass None X Shows fault faults error x.0 g x.1 calls s may given tt; answers = x.2 }
+
+    -- where memory ran out, the run stays
+    pub failed_keeps : {A X : Type 0} (Shows : A → Event E → Type 0) (fault : Step) (error : DurableError) (r : Result Step X) → Calls types old new Given at ask Shows (Err error) → (handed : ℕ) → FailedAs at (tx_asked ask) handed fault error r
+        → IfErr r (λ e. (calls : List (Call E)) → Sees types old calls → session.Stays (λ s (p : P) r. Sees types s r) (λ (p : P) n. true) new pass calls)
+    failed_keeps Shows fault call.NoMemory (Err x) g handed f = stays_if old new Given at ask pass None g
+    failed_keeps Shows fault call.Down (Err x) g handed f = absurd f
+    failed_keeps Shows fault call.Disk (Err x) g handed f = absurd f
+    failed_keeps Shows fault (call.Full room) (Err x) g handed f = absurd f
+    failed_keeps Shows fault (call.Refused why) (Err x) g handed f = absurd f
+    failed_keeps Shows fault error (Ok line) g handed f = tt
 
   -- the same, as the partitions stand in the code that calls them
   pub calls_here : {A : Type 0} (inside old new : Held E D) → inside ≡ old → (Given : List (Entry E) → Type 0) (at : PartId) (ask : Ask E) (Shows : A → Event E → Type 0) (r : Result A DurableError) → Calls types inside new Given at ask Shows r → Calls types old new Given at ask Shows r

@@ -144,7 +144,7 @@ module _ {S E D : Type 0} (types : Types S E D) (w : WholeState E D) where
             let s : Step = step.Sent w.post.next_letter at site m.lo m.hi (length m.parts) in
             let x = posted types w.live run r.live line (command.Send at site from) at (Sent from m) held size (record { reached = reached; one_caller = (refl, r.live.sees.one_caller); rooms = rooms_more types w.live.sites held size (entries r.live.calls) at (Sent from m) refl r.live.sees.rooms }) s
             (sent_posted at at site site w.post.next_letter m.lo m.hi (length m.parts) from) (λ i. step.Sent (r.post.sent at i + 1) at (sym to i) m.lo m.hi (length m.parts)) (λ i. record { at = at; call = SendTo (sym to i) from }) (λ who. tt) tt
-            g.moves (let y = g.goes (entries r.live.calls) r.live.sees.reached (tt, tt) in subst (λ e. Spends types.kinds types.codec types.state g.moves.before g.moves.after (r.live.sees.reached.state at) e) y.0.shows.1 y.1) in
+            g.moves (let y = g.goes (entries r.live.calls) r.live.sees.reached (tt, tt) in subst (λ e. Spends types.kinds types.codec types.state g.moves.before g.moves.after (r.live.sees.reached.state at) e) y.0.shows.1 y.1) refl tt in
             record {
               live = x.reached;
               post = subst (λ cs. HasPost held.sites held.parts next (entries cs) after_send.post) (sym x.calls_are) (subst (λ n. HasPost n held.parts next later after_send.post) (sym g.moves.same_sites) (subst (λ n. HasPost w.live.sites.sites n next later after_send.post) (sym g.moves.same_parts) post));
@@ -153,10 +153,10 @@ module _ {S E D : Type 0} (types : Types S E D) (w : WholeState E D) where
       pub sent : (steps : List Step) → steps ≡ step.Sent w.post.next_letter at site m.lo m.hi (length m.parts) ∷ [] → lacks_way w.live.sites at site ≡ false → (length w.post.letters == 4096) ≡ false → Applies types (Some w) (command.Send at site from) steps (Some after_send)
       sent steps is way room line run r =
           let s : Step = step.Sent w.post.next_letter at site m.lo m.hi (length m.parts) in
-          subst (λ steps. IsAnswer is_built run (command.Send at site from) steps × ReachedWhole types after_send (answered line (Some (command.Send at site from)) steps run) × ShowFaults types.state run w.live.sites held steps) (sym is) (
+          subst (λ steps. IsAnswer is_built run (command.Send at site from) steps × ReachedWhole types after_send (answered line (Some (command.Send at site from)) steps run) × (SameCluster types.state w.live.sites held × ShowFaults types.state run w.live.sites held steps)) (sym is) (
             subst (AnswersBy run (command.Send at site from) (s ∷ [])) (sym (none_due (all_met run (command.Send at site from)) (refl, (ap not r.live.has, (way_in run r ∙ way, (ap (λ n. n == 4096) (sym r.post.present) ∙ room, tt)))))) (s, refl, refl, r.post.made),
             whole line run r,
-            (tt, tt),
+            (same_of types.state w.live.sites held at g.moves, (tt, tt)),
           )
 
     -- a message that isn't made
@@ -250,16 +250,16 @@ module _ {S E D : Type 0} (types : Types S E D) (w : WholeState E D) where
             let s : Step = step.Reported w.post.next_note at b in
             let x = posted types w.live run r.live line (command.Report at) at (Reported b) w.live.sites (same_refl types.state w.live.sites) (record { reached = reached_told; one_caller = (refl, r.live.sees.one_caller); rooms = rooms_more types w.live.sites w.live.sites (same_refl types.state w.live.sites) (entries r.live.calls) at (Reported b) refl r.live.sees.rooms }) s
             (reported_posted at at w.post.next_note b) (λ i. step.Reported (r.post.told at i + 1) at b) refl (λ who. tt) tt
-            g.moves (spends_of types w.live.sites w.live.sites (Asks types w.live.sites Any at AskReport) at AskReport (Reported b) g (entries r.live.calls) r.live.sees.reached (tt, tt)) in
+            g.moves (spends_of types w.live.sites w.live.sites (Asks types w.live.sites Any at AskReport) at AskReport (Reported b) g (entries r.live.calls) r.live.sees.reached (tt, tt)) refl tt in
             record { live = x.reached; post = subst (λ cs. HasPost w.live.sites.sites w.live.sites.parts next_told (entries cs) after_report.post) (sym x.calls_are) post_told }
 
       pub reported : (steps : List Step) → steps ≡ step.Reported w.post.next_note at b ∷ [] → holds_part w.live.sites at ≡ true → (length w.post.notes == 4096) ≡ false → Applies types (Some w) (command.Report at) steps (Some after_report)
       reported steps is there room line run r =
           let s : Step = step.Reported w.post.next_note at b in
-          subst (λ steps. IsAnswer is_built run (command.Report at) steps × ReachedWhole types after_report (answered line (Some (command.Report at)) steps run) × ShowFaults types.state run w.live.sites w.live.sites steps) (sym is) (
+          subst (λ steps. IsAnswer is_built run (command.Report at) steps × ReachedWhole types after_report (answered line (Some (command.Report at)) steps run) × (SameCluster types.state w.live.sites w.live.sites × ShowFaults types.state run w.live.sites w.live.sites steps)) (sym is) (
             subst (AnswersBy run (command.Report at) (s ∷ [])) (sym (none_due (all_met run (command.Report at)) (refl, (ap not r.live.has, (ap not (part_there run r ∙ there), (ap (λ n. n == 4096) (sym r.post.noted) ∙ room, tt)))))) (s, refl, refl, r.post.reported),
             whole_told line run r,
-            (tt, tt),
+            (same_refl types.state w.live.sites, (tt, tt)),
           )
 
     -- a report that isn't made

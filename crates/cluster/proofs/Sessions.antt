@@ -10,7 +10,7 @@ use Rattle.world_model.specs.declared.step.Step.{Step}
 use Rattle.world_model.specs.rules.Asking.{asked_by}
 use Rattle.world_model.specs.commands.Cluster.{sites_of, parts_of}
 use Rattle.world_model.specs.lines.Dependency.{IsOwnPast}
-use Rattle.world_model.specs.rules.Event.{Ask, IsDown, Event, Decided, Opened, Refused, Cut, Entry, attempt}
+use Rattle.world_model.specs.rules.Event.{Ask, IsDown, Event, Decided, Opened, Refused, Cut, Entry, attempt, Restarted, RestartCut}
 use Rattle.world_model.specs.rules.Lines.{call_asked, step_shown, call_of}
 use Rattle.world_model.specs.commands.Meeting.{site_after, site_of}
 use Rattle.world_model.proofs.Dependency.{dependency_after}
@@ -22,7 +22,8 @@ use Rattle.txn_session.specs.Holds.{Holds, Makes}
 use Rattle.txn_session.specs.Session.{SessionState}
 use Rattle.site_partitions.specs.Held.{Held}
 use Rattle.site_partitions.specs.Reaches.{Types}
-use Rattle.cluster.specs.Fuel.{Spent}
+use Rattle.cluster.specs.Fuel.{TellsCall}
+use Rattle.cluster.proofs.FusedRuns.{is_of_restart}
 use Rattle.cluster.specs.Same.{SameCluster}
 use Rattle.cluster.specs.Live.{LiveState, session_in, IsPut}
 use Rattle.cluster.specs.Reached.{phase_as, StandsBy, StandsAs, ReachedLive, GoesTo}
@@ -69,6 +70,12 @@ module _ {S E D : Type 0} (types : Types S E D) where
         holds = subst (λ more. Holds new (called m.goes.by at m.goes.event ∷ (more ++ calls))) none m.holds;
       }
 
+  -- what a session asks is no restart
+  own_called : (events : List (Entry E)) (name : List ℕ) (e : Event E) → IsOwnAsk events name (asked_by (attempt e)) → is_of_restart e ≡ false
+  own_called events name RestartCut own = absurd own
+  own_called events name (Restarted n b named listed) own = absurd own
+  own_called events name other own = refl
+
   site_any : (events : List (Entry E)) (at : PartId) (name who : List ℕ) (old : Option ℕ) (e : Event E) → IsOwnAsk events name (asked_by (attempt e)) → site_after who old (step_shown events at e) ≡ old
   site_any events at name who old (Opened n) own = absurd own
   site_any events at name who old (Cut (Decided t v)) own = refl
@@ -92,7 +99,7 @@ module _ {S E D : Type 0} (types : Types S E D) where
         pub of_session : has_other_lines cmd ≡ false
         pub placed : asked_of (calls_of run) run cmd ≡ record { at = at; call = call_asked ask }
         pub past : IsOwnPast (sites_of run) (calls_of run) (call_asked ask)
-        pub spent : Spent types c.sites held at answer
+        pub told : TellsCall types c.sites held at answer
         pub idle : (who : List ℕ) → bytes_eq name who ≡ false → (line : Step) → by_command (parts_of run) who (phase run who) (Some cmd) line ≡ phase run who
         pub few : update_total (phase_as new.doing) ≤ 256
         pub phase : phase_after (parts_of run) name (phase run name) (Some cmd) answer ≡ phase_as new.doing
@@ -101,7 +108,7 @@ module _ {S E D : Type 0} (types : Types S E D) where
       pub acted : (sessions : List (List ℕ × SessionState E)) → Owes sessions → GoesTo types c run r (record { sites = held; sessions = sessions }) ((record { number = number; command = Some cmd; step = answer }) ∷ run)
       acted sessions o = subst (λ line. GoesTo types c run r (record { sites = held; sessions = sessions }) ((record { number = number; command = Some cmd; step = line }) ∷ run)) (sym t.shows)
           (turned types c run r number cmd t.by at t.event held o.same t.seen plain lines_are sessions o.put.count past each
-          (fuel_told types c run r number cmd t.by at t.event held o.same t.seen plain lines_are (subst (Spent types c.sites held at) t.shows o.spent)))
+          (fuel_told types c run r number cmd t.by at t.event held o.same t.seen plain lines_are (subst (TellsCall types c.sites held at) t.shows o.told) (own_called (entries r.calls) name t.event own)))
         where
           own : IsOwnAsk (entries r.calls) name (asked_by (attempt t.event))
           own = subst (IsOwnAsk (entries r.calls) name) (sym t.asked) o.own

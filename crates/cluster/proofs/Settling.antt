@@ -48,7 +48,7 @@ use Rattle.site_partitions.specs.Held.{Held, holds_part}
 use Rattle.site_partitions.specs.Reaches.{Types, Reaches, MayAsk, HasBegun}
 use Rattle.cluster.specs.Built.{is_built}
 use Rattle.cluster.specs.Fates.{lead_place, settling, MaySettle, SettledTo, UnwrittenTo, Settles}
-use Rattle.cluster.specs.Faults.{ShowsFault, ShowFaults}
+use Rattle.cluster.specs.Faults.{ShowsFault, ShowFaults, TellsFault}
 use Rattle.cluster.specs.Live.{LiveState}
 use Rattle.cluster.specs.Reached.{ReachedLive, GoesTo, AppliesLive, IsReachedLive}
 use Rattle.cluster.specs.Same.{SameCluster, same_refl}
@@ -57,7 +57,7 @@ use Rattle.cluster.proofs.Aborting.{never_down, never_undropped, never_unfinishe
 use Rattle.cluster.proofs.Clocks.{part_in}
 use Rattle.cluster.proofs.Delivering.{place_of_part}
 use Rattle.cluster.proofs.Downed.{down_report}
-use Rattle.cluster.proofs.Faulted.{same_of, rose_of, show_more, shows_last}
+use Rattle.cluster.proofs.Faulted.{failed_of, same_of, rose_of, show_more, shows_last}
 use Rattle.cluster.proofs.Leading.{answered_more}
 use Rattle.cluster.proofs.Meets.{all_met, first_at, none_due, refused}
 use Rattle.cluster.proofs.Queueing.{AllSo, all_so_more, names_of, without_one, first_is, lines_for, settles_all, settles_front, lines_more}
@@ -70,6 +70,7 @@ use Rattle.cluster.proofs.Standing.{goes_none, goes_both, goes_quiet}
 use Rattle.cluster.proofs.Stepping.{either_true, either_false}
 use Rattle.cluster.proofs.Telling.{led_here, led_elsewhere, AreOther, AreOnce, once, AreLeft, down_is, low_is, waiting_is, site_is, lead_there, lead_same, word, listed_are}
 use Rattle.cluster.proofs.Turned.{fuel_next, turned_alone}
+use Rattle.cluster.proofs.FusedRuns.{is_of_restart}
 use Rattle.cluster.proofs.Turning.{is_numberless, IsSilentFor}
 use Rattle.cluster.proofs.Ups.{up_after}
 use Rattle.cluster.proofs.Worlds.{pending_home}
@@ -218,11 +219,11 @@ module _ {S E D : Type 0} (types : Types S E D) (c : LiveState E D) (p : PartId)
 
     -- a line of a disk that failed, or has no room
     unwritten_goes : (later : Held E D) (same : SameCluster types.state c.sites later) (number : ℕ) (run : Run) (r : ReachedLive types c run) (e : Event E) (s : Step) → s ≡ step_shown (entries r.calls) p e → is_unwritten s ≡ true → is_numberless e ≡ true → ((who : List ℕ) → IsSilentFor (entries r.calls) who e) → IsOwnPast (sites_of run) (calls_of run) (call_of e) → Sees types later (called 0 p e ∷ r.calls)
-        → (m : Moves types.state c.sites later p) → Spends types.kinds types.codec types.state m.before m.after (r.sees.reached.state p) e → ends_as_lead (calls_of run) t ≡ call_of e → first_end (parts_of run) (calls_of run) p (waiting (calls_of run) p) ≡ ends_as_lead (calls_of run) t → GoesTo types c run r (with_sites later) (settling number p s run)
-    unwritten_goes later same number run r e s shows un plain silent own seen m spends ends first =
+        → (m : Moves types.state c.sites later p) → Spends types.kinds types.codec types.state m.before m.after (r.sees.reached.state p) e → is_of_restart e ≡ false → TellsFault types.state c.sites later p s → ends_as_lead (calls_of run) t ≡ call_of e → first_end (parts_of run) (calls_of run) p (waiting (calls_of run) p) ≡ ends_as_lead (calls_of run) t → GoesTo types c run r (with_sites later) (settling number p s run)
+    unwritten_goes later same number run r e s shows un plain silent own seen m spends no_restart tells ends first =
         subst (λ x. GoesTo types c run r (with_sites later) (settling number p x run)) (sym shows)
         (turned_alone types c run r number (command.Settle p) 0 p e later same seen plain (unwritten_lines (step_shown (entries r.calls) p e) (ap is_unwritten (sym shows) ∙ un)) (λ who x. refl) silent own
-        (fuel_next types c run r number (command.Settle p) 0 p e later same seen plain (unwritten_lines (step_shown (entries r.calls) p e) (ap is_unwritten (sym shows) ∙ un)) m spends))
+        (fuel_next types c run r number (command.Settle p) 0 p e later same seen plain (unwritten_lines (step_shown (entries r.calls) p e) (ap is_unwritten (sym shows) ∙ un)) m spends no_restart (subst (TellsFault types.state c.sites later p) shows tells)))
       where
         unwritten_lines : (x : Step) → is_unwritten x ≡ true → calls_of (settling number p x run) ≡ (record { at = p; call = call_of e; step = x }) ∷ calls_of run
         unwritten_lines (step.Disk q) h = λ i. (record { at = p; call = (first ∙ ends) i; step = step.Disk q }) ∷ calls_of run
@@ -253,7 +254,7 @@ module _ {S E D : Type 0} (types : Types S E D) (c : LiveState E D) (p : PartId)
           record {
             line = sym (cond-false (stays (parts_of run) (calls_of run) p t) _ _ (aborted_stays run r l) ∙ cond-false (in_history (calls_of run) t) _ _ (aborted_fate run r l).0);
             goes = turned_alone types c run r number (command.Settle p) 0 p (Aborted t false) later same seen refl refl (λ who s. refl) (λ who. tt) tt
-                (fuel_next types c run r number (command.Settle p) 0 p (Aborted t false) later same seen refl refl g.moves (spends_of types c.sites later (AbortsByLead types c.sites p t) p (AskAbort t) (Aborted t false) g (entries r.calls) r.sees.reached (may_drop run r l)));
+                (fuel_next types c run r number (command.Settle p) 0 p (Aborted t false) later same seen refl refl g.moves (spends_of types c.sites later (AbortsByLead types c.sites p t) p (AskAbort t) (Aborted t false) g (entries r.calls) r.sees.reached (may_drop run r l)) refl tt);
             same = end_settled (parts_of run) (calls_of run) p t (AbortOf t) (step.Aborted p t) (λ time index u. refl) (λ u. refl) (λ old. refl) (λ u old. refl);
             lasting = end_lasts (parts_of run) (calls_of run) p t (AbortOf t) (step.Aborted p t) (λ time index u. refl) (λ u. refl) (λ old. refl) (λ u old. refl);
             leads = end_leads (parts_of run) (calls_of run) p t (AbortOf t) (step.Aborted p t) (λ time index u. refl) (λ u. refl) (λ old. refl) (λ u old. refl);
@@ -274,7 +275,7 @@ module _ {S E D : Type 0} (types : Types S E D) (c : LiveState E D) (p : PartId)
             ends = aborted_stays run r l;
             unwritten = ap is_unwritten f;
             tells = subst (ShowsFault types.state run c.sites later) (sym f) (rose_of types.state c.sites later p g.0.moves g.1.rose);
-            goes = unwritten_goes later (same_of types.state c.sites later p g.0.moves) number run r (Cut (Aborted t false)) s f (ap is_unwritten f) refl (λ who. tt) tt seen g.0.moves (subst (λ e. Spends types.kinds types.codec types.state g.0.moves.before g.0.moves.after (r.sees.reached.state p) e) is (g.0.goes (entries r.calls) r.sees.reached (may_drop run r l)).1) (cond-false (in_history (calls_of run) t) _ _ (aborted_fate run r l).0);
+            goes = unwritten_goes later (same_of types.state c.sites later p g.0.moves) number run r (Cut (Aborted t false)) s f (ap is_unwritten f) refl (λ who. tt) tt seen g.0.moves (subst (λ e. Spends types.kinds types.codec types.state g.0.moves.before g.0.moves.after (r.sees.reached.state p) e) is (g.0.goes (entries r.calls) r.sees.reached (may_drop run r l)).1) refl (subst (TellsFault types.state c.sites later p) (sym f) (refl, failed_of types.state c.sites later p g.0.moves g.1)) (cond-false (in_history (calls_of run) t) _ _ (aborted_fate run r l).0);
           }
       settle_undropped later (call.Full room) s g f number run r h l =
           let x = (g.1.goes (entries r.calls) r.sees.reached (may_drop run r l)).0 in
@@ -283,7 +284,7 @@ module _ {S E D : Type 0} (types : Types S E D) (c : LiveState E D) (p : PartId)
             ends = aborted_stays run r l;
             unwritten = ap is_unwritten f;
             tells = subst (ShowsFault types.state run c.sites later) (sym f) tt;
-            goes = unwritten_goes later (same_of types.state c.sites later p g.1.moves) number run r (Refused (AskAbort t) (HasNoRoom room)) s f (ap is_unwritten f) refl (λ who. tt) tt seen g.1.moves (spends_of types c.sites later (AbortsByLead types c.sites p t) p (AskAbort t) (Refused (AskAbort t) (HasNoRoom room)) g.1 (entries r.calls) r.sees.reached (may_drop run r l)) (cond-false (in_history (calls_of run) t) _ _ (aborted_fate run r l).0);
+            goes = unwritten_goes later (same_of types.state c.sites later p g.1.moves) number run r (Refused (AskAbort t) (HasNoRoom room)) s f (ap is_unwritten f) refl (λ who. tt) tt seen g.1.moves (spends_of types c.sites later (AbortsByLead types c.sites p t) p (AskAbort t) (Refused (AskAbort t) (HasNoRoom room)) g.1 (entries r.calls) r.sees.reached (may_drop run r l)) refl (subst (TellsFault types.state c.sites later p) (sym f) tt) (cond-false (in_history (calls_of run) t) _ _ (aborted_fate run r l).0);
           }
       settle_undropped later (call.Refused why) s g f number run r h l = absurd (never_undropped types c.sites later p t why (entries r.calls) r.sees.reached g (may_drop run r l) (up_in run r) (waits_at run r h))
 
@@ -316,7 +317,7 @@ module _ {S E D : Type 0} (types : Types S E D) (c : LiveState E D) (p : PartId)
           record {
             line = sym (cond-false (stays (parts_of run) (calls_of run) p t) _ _ (committed_stays run r l) ∙ cond-true (in_history (calls_of run) t) _ _ (committed_fate run r l).0);
             goes = turned_alone types c run r number (command.Settle p) 0 p (Finished t v) later same seen refl refl (λ who s. refl) (λ who. tt) tt
-                (fuel_next types c run r number (command.Settle p) 0 p (Finished t v) later same seen refl refl g.moves (spends_of types c.sites later (Asks types c.sites Any p (AskFinish t v)) p (AskFinish t v) (Finished t v) g (entries r.calls) r.sees.reached (may_end run r h l, tt)));
+                (fuel_next types c run r number (command.Settle p) 0 p (Finished t v) later same seen refl refl g.moves (spends_of types c.sites later (Asks types c.sites Any p (AskFinish t v)) p (AskFinish t v) (Finished t v) g (entries r.calls) r.sees.reached (may_end run r h l, tt)) refl tt);
             same = end_settled (parts_of run) (calls_of run) p t (FinishOf t) (step.Finished p t) (λ time index u. refl) (λ u. refl) (λ old. refl) (λ u old. refl);
             lasting = end_lasts (parts_of run) (calls_of run) p t (FinishOf t) (step.Finished p t) (λ time index u. refl) (λ u. refl) (λ old. refl) (λ u old. refl);
             leads = end_leads (parts_of run) (calls_of run) p t (FinishOf t) (step.Finished p t) (λ time index u. refl) (λ u. refl) (λ old. refl) (λ u old. refl);
@@ -337,7 +338,7 @@ module _ {S E D : Type 0} (types : Types S E D) (c : LiveState E D) (p : PartId)
             ends = committed_stays run r l;
             unwritten = ap is_unwritten f;
             tells = subst (ShowsFault types.state run c.sites later) (sym f) (rose_of types.state c.sites later p g.0.moves g.1.rose);
-            goes = unwritten_goes later (same_of types.state c.sites later p g.0.moves) number run r (Cut (Finished t v)) s f (ap is_unwritten f) refl (λ who. tt) tt seen g.0.moves (subst (λ e. Spends types.kinds types.codec types.state g.0.moves.before g.0.moves.after (r.sees.reached.state p) e) is (g.0.goes (entries r.calls) r.sees.reached (may_end run r h l, tt)).1) (cond-true (in_history (calls_of run) t) _ _ (committed_fate run r l).0);
+            goes = unwritten_goes later (same_of types.state c.sites later p g.0.moves) number run r (Cut (Finished t v)) s f (ap is_unwritten f) refl (λ who. tt) tt seen g.0.moves (subst (λ e. Spends types.kinds types.codec types.state g.0.moves.before g.0.moves.after (r.sees.reached.state p) e) is (g.0.goes (entries r.calls) r.sees.reached (may_end run r h l, tt)).1) refl (subst (TellsFault types.state c.sites later p) (sym f) (refl, failed_of types.state c.sites later p g.0.moves g.1)) (cond-true (in_history (calls_of run) t) _ _ (committed_fate run r l).0);
           }
       settle_unfinished later (call.Full room) s g f number run r h l =
           let x = (g.1.goes (entries r.calls) r.sees.reached (may_end run r h l, tt)).0 in
@@ -346,7 +347,7 @@ module _ {S E D : Type 0} (types : Types S E D) (c : LiveState E D) (p : PartId)
             ends = committed_stays run r l;
             unwritten = ap is_unwritten f;
             tells = subst (ShowsFault types.state run c.sites later) (sym f) tt;
-            goes = unwritten_goes later (same_of types.state c.sites later p g.1.moves) number run r (Refused (AskFinish t v) (HasNoRoom room)) s f (ap is_unwritten f) refl (λ who. tt) tt seen g.1.moves (spends_of types c.sites later (Asks types c.sites Any p (AskFinish t v)) p (AskFinish t v) (Refused (AskFinish t v) (HasNoRoom room)) g.1 (entries r.calls) r.sees.reached (may_end run r h l, tt)) (cond-true (in_history (calls_of run) t) _ _ (committed_fate run r l).0);
+            goes = unwritten_goes later (same_of types.state c.sites later p g.1.moves) number run r (Refused (AskFinish t v) (HasNoRoom room)) s f (ap is_unwritten f) refl (λ who. tt) tt seen g.1.moves (spends_of types c.sites later (Asks types c.sites Any p (AskFinish t v)) p (AskFinish t v) (Refused (AskFinish t v) (HasNoRoom room)) g.1 (entries r.calls) r.sees.reached (may_end run r h l, tt)) refl (subst (TellsFault types.state c.sites later p) (sym f) tt) (cond-true (in_history (calls_of run) t) _ _ (committed_fate run r l).0);
           }
       settle_unfinished later (call.Refused why) s g f number run r h l = absurd (never_unfinished types c.sites later p t why (entries r.calls) r.sees.reached v g (may_end run r h l))
 

@@ -300,7 +300,7 @@ module _ {S E D : Type 0} (types : Types S E D) where
             of_session = of_way w name steps;
             placed = placed;
             past = past_for s.parts txn lead (sites_of run) (calls_of run) asked;
-            spent = call_tells.1;
+            told = call_tells;
             idle = λ who h line. idle_end w (parts_of run) name who steps (phase run who) h line;
             few = subst (λ y. update_total (phase_as y) ≤ 256) (sym doing_is) (omega arith);
             phase = phase_is ∙ ap phase_as (sym doing_is);

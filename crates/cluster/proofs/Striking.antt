@@ -17,7 +17,8 @@ use Rattle.world_model.specs.lines.Places.{IsPlace}
 use Rattle.world_model.specs.commands.Run.{Run}
 use Rattle.world_model.specs.commands.ScriptAnswers.{AnswersBy, IsAnswer}
 use Rattle.crdt_core.specs.Fitting.{unfit}
-use Rattle.disk_core.specs.States.{Rose}
+use Rattle.disk_core.specs.States.{Fails}
+use Rattle.cluster.specs.Fuel.{IsUnfiredAt}
 use Rattle.partition_core.specs.Durable.{disk_in}
 use Rattle.partition_core.specs.declared.restart.Restarted.{Restarted}
 use Rattle.partition_core.specs.declared.restart.RestartError.TheVariants as restart
@@ -50,6 +51,9 @@ place_of_here {E} {D} inside old view p has = subst (λ (x : LiveState E D). IsP
 
 within : (n most : ℕ) → 1 ≤ n → n ≤ most → (nat_le 1 n && nat_le n most) ≡ true
 within n most a b = and_from (nat_le 1 n) (nat_le n most) (le_holds 1 n a) (le_holds n most b)
+
+pub holds_at : {E D : Type 0} (c : Held E D) (p : PartId) → IsPlace c.sites c.parts p → holds_part c p ≡ true
+holds_at c p at = and_from (holds_site c p.site) (nat_le 1 p.part && nat_le p.part c.parts) (within p.site c.sites at.least_site at.most_site) (within p.part c.parts at.least_part at.most_part)
 
 pub holds_place : {E D : Type 0} (inside old : LiveState E D) → inside ≡ old → (p : PartId) → IsPlace old.sites.sites old.sites.parts p → holds_part inside.sites p ≡ true
 holds_place {E} {D} inside old view p at = subst (λ (x : LiveState E D). holds_part x.sites p ≡ true) (sym view)
@@ -135,14 +139,14 @@ module _ {S E D : Type 0} (types : Types S E D) (c : LiveState E D) (p : PartId)
       )
 
   -- the disk failed in a restart
-  pub stayed_down : (later : Held E D) (steps : List Step) → steps ≡ step.Disk p ∷ [] → holds_part c.sites p ≡ true → (k : StaysDownAt types c.sites later p) → Rose (disk_in types.state k.moves.before).faults (disk_in types.state k.moves.after).faults → AppliesLive types c (command.Restart p) steps (after later)
-  stayed_down later steps is there k rose number run r =
+  pub stayed_down : (later : Held E D) (steps : List Step) → steps ≡ step.Disk p ∷ [] → holds_part c.sites p ≡ true → (k : StaysDownAt types c.sites later p) → Fails (disk_in types.state k.moves.before) (disk_in types.state k.moves.after) → IsUnfiredAt types.state c.sites p → AppliesLive types c (command.Restart p) steps (after later)
+  stayed_down later steps is there k fails unfired number run r =
       let seen : Sees types later (called 0 p RestartCut ∷ r.calls) = record { reached = k.goes (entries r.calls) r.sees.reached; one_caller = (refl, r.sees.one_caller); rooms = rooms_more types c.sites later (same_of types.state c.sites later p k.moves) (entries r.calls) p (RestartCut) refl r.sees.rooms } in
       subst (λ l. IsAnswer is_built run (command.Restart p) l × GoesTo types c run r (after later) (answered number (Some (command.Restart p)) l run) × ShowFaults types.state run c.sites later l) (sym is) (
         subst (AnswersBy run (command.Restart p) (step.Disk p ∷ [])) (sym (restarts run r there)) (step.Disk p, refl, refl, tt),
         turned_alone types c run r number (command.Restart p) 0 p RestartCut later (same_of types.state c.sites later p k.moves) seen refl (asked_lines number (command.Restart p) run (step.Disk p) (step.Disk p) p Restart refl refl refl refl) (λ who y. refl) (λ who. tt) tt
-            (fueled_stopped types c.sites later p run (record { number = number; command = Some (command.Restart p); step = step.Disk p }) (entries r.calls) r.sees.reached r.shown (λ h. refl) (λ t h. absurd cc) k refl refl (λ h. refl) r.fuel),
-        (rose_of types.state c.sites later p k.moves rose, tt),
+            (fueled_stopped types c.sites later p run (record { number = number; command = Some (command.Restart p); step = step.Disk p }) (entries r.calls) r.sees.reached r.shown (λ h. refl) (λ t h. absurd cc) k fails (unfired k.moves.before k.moves.there) refl refl (λ h. refl) r.fuel),
+        (rose_of types.state c.sites later p k.moves fails.rose, tt),
       )
 
   -- after a fuse that has fired was taken away

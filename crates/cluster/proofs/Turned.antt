@@ -30,7 +30,9 @@ use Rattle.partition_core.specs.Moments.{Spends}
 use Rattle.site_partitions.specs.Held.{Held}
 use Rattle.site_partitions.specs.Moves.{Moves}
 use Rattle.site_partitions.specs.Reaches.{Types}
-use Rattle.cluster.specs.Fuel.{Fueled, Spent}
+use Rattle.cluster.specs.Faults.{TellsFault}
+use Rattle.cluster.specs.Fuel.{Fueled, TellsCall}
+use Rattle.cluster.proofs.FusedRuns.{is_of_restart}
 use Rattle.cluster.specs.Same.{SameCluster}
 use Rattle.cluster.specs.Live.{LiveState, session_in}
 use Rattle.cluster.specs.Reached.{StandsBy, StandsAs, ReachedLive, GoesTo}
@@ -116,12 +118,12 @@ module _ {S E D : Type 0} (types : Types S E D) (c : LiveState E D) (run : Run) 
       st
 
   -- the fuses after it, by what it took of the calls of its disk
-  pub fuel_next : (m : Moves types.state c.sites held at) → Spends types.kinds types.codec types.state m.before m.after (r.sees.reached.state at) e → Fueled types.state held next (entries later)
-  fuel_next m spends = fueled_call types c.sites held at run (record { number = number; command = Some cmd; step = line }) (entries r.calls) r.sees.reached r.shown placed_at doubted m e sees.reached told.number asks_so spends r.fuel
+  pub fuel_next : (m : Moves types.state c.sites held at) → Spends types.kinds types.codec types.state m.before m.after (r.sees.reached.state at) e → is_of_restart e ≡ false → TellsFault types.state c.sites held at line → Fueled types.state held next (entries later)
+  fuel_next m spends no_restart tells = fueled_call types c.sites held at run (record { number = number; command = Some cmd; step = line }) (entries r.calls) r.sees.reached r.shown placed_at doubted m e sees.reached told.number asks_so spends no_restart tells r.fuel
 
   -- or as the store tells it
-  pub fuel_told : Spent types c.sites held at line → Fueled types.state held next (entries later)
-  fuel_told spent = fueled_spent types c.sites held at run (record { number = number; command = Some cmd; step = line }) (entries r.calls) r.sees.reached r.shown placed_at doubted (entries later) (λ whole b. b.1) spent (plain_untaken (entries r.calls) at e plain) r.fuel
+  pub fuel_told : TellsCall types c.sites held at line → is_of_restart e ≡ false → Fueled types.state held next (entries later)
+  fuel_told tells no_restart = fueled_spent types c.sites held at run (record { number = number; command = Some cmd; step = line }) (entries r.calls) r.sees.reached r.shown placed_at doubted (entries later) (λ whole b. b.1) tells (plain_untaken (entries r.calls) at e plain) e sees.reached no_restart refl r.fuel
 
   quiet : (is_sent e ≡ false) × (is_report e ≡ false)
   quiet = quiet_call e plain

@@ -218,7 +218,7 @@ module _ {S E D : Type 0} (types : Types S E D) (c : LiveState E D) (name : List
               of_session = refl;
               placed = ap (λ p. at_object (parts_of run) o p (λ v. UpdateOf v o op)) (st.phase ∙ ap phase_as e) ∙ (λ i. record { at = record { site = x.0.site_is i; part = place_of o.bucket o.key (sym st.parts i) }; call = UpdateOf txn.tx o op });
               past = tt;
-              spent = d.0.1;
+              told = d.0;
               few = b.few;
               idle = λ who h line. refl;
               phase = subst (λ n. phase_after (parts_of run) n (phase run name) (Some (command.Update n o op)) answer ≡ phase_as a.after.doing) st.name (ap (phase_after (parts_of run) a.before.name (phase run name) (Some (command.Update a.before.name o op))) t.shows ∙ b.phase (parts_of run) (phase run name) st.phase);

@@ -29,12 +29,12 @@ module _ {S E D : Type 0} (types : Types S E D) where
   up_of t q false s = s.tables.up
 
   module _ (old new : Held E D) (p : PartId) (m : Moves types.state old new p) (place : IsPlace new.sites new.parts p) where
-    there_now : (other : Durable E D) → get_or new.partitions (index_of new.parts p) other ≡ m.after
+    pub there_now : (other : Durable E D) → get_or new.partitions (index_of new.parts p) other ≡ m.after
     there_now other =
         subst (λ (h : Held E D). get_or h.partitions (index_of h.parts p) other ≡ m.after) (sym m.changed)
         (at_set old.partitions (index_of old.parts p) m.before m.after m.there other)
 
-    stands_now : (run : List (Entry E)) (r : Reaches types new run) → StandsOn types.codec types.state m.after (r.state p)
+    pub stands_now : (run : List (Entry E)) (r : Reaches types new run) → StandsOn types.codec types.state m.after (r.state p)
     stands_now run r = subst (λ t. StandsOn types.codec types.state t (r.state p)) (there_now m.after) (r.each p place m.after).stands
 
     -- where one run left it up, any did

@@ -1,5 +1,5 @@
 -- How the fuse of a partition's disk burns down, and that no fuse of a script lets more pass than it may.
-use Rattle.std.specs.Prelude.{◌≡◌, ℕ, ◌+◌, ◌*◌, ◌≤◌, Bool, true, false, List, [], ◌∷◌, get_or, Option, None, Some, ⊤}
+use Rattle.std.specs.Prelude.{◌≡◌, ◌≢◌, ◌⊎◌, ℕ, ◌+◌, ◌*◌, ◌≤◌, IsTrue, Bool, true, false, List, [], ◌∷◌, get_or, Option, None, Some, ⊤}
 use Rattle.site_vector.specs.declared.ids.PartId.{PartId}
 use Rattle.disk_core.specs.States.{DiskState}
 use Rattle.world_model.specs.declared.command.Command.{Command}
@@ -12,10 +12,15 @@ use Rattle.world_model.specs.rules.Lines.{shown_lines, step_shown}
 use Rattle.world_model.specs.declared.step.Step.{Step}
 use Rattle.world_model.specs.lines.Restarts as restarts
 use Rattle.world_model.specs.events.Restarts.{brings}
+use Rattle.world_model.specs.commands.Cluster.{has_cluster, parts_of}
 use Rattle.world_model.specs.commands.Run.{Run}
-use Rattle.partition_core.specs.Durable.{Durable, disk_in}
+use Rattle.world_model.specs.commands.ScriptCalls.{calls_of}
+use Rattle.world_model.specs.declared.step.Step.TheVariants as step
+use Rattle.world_model.specs.lines.Places.{IsPlace}
+use Rattle.world_model.specs.lines.Updates.{lead}
+use Rattle.partition_core.specs.Durable.{Durable, disk_in, is_down}
 use Rattle.partition_core.specs.Moments.{Spends}
-use Rattle.site_partitions.specs.Held.{Held, index_of, holds_part}
+use Rattle.site_partitions.specs.Held.{Held, IsAt, index_of, holds_part}
 use Rattle.site_partitions.specs.Moves.{Moves}
 use Rattle.site_partitions.specs.Reaches.{Types, Reaches}
 use Rattle.cluster.specs.Faults.{TellsFault}
@@ -41,6 +46,11 @@ abbrev pub BurnsAt : Bool → Option Fuse → Option ℕ → Type 0
 BurnsAt true f left = BurnsBy f left
 BurnsAt false f left = f ≡ None
 
+-- It fails only by a fuse: it is sound, and never lacked memory to grow.
+pub record FailsByFuse (disk : DiskState) : Type 0 where
+  pub sound : IsTrue disk.sound
+  pub fed : disk.starved ≡ false
+
 module _ {E : Type 0} where
   -- what was taken brought a part above the bound where the whole run tells so
   abbrev pub IsBrought : List Line → List Line → PartId → Event E → Type 0
@@ -56,11 +66,42 @@ module _ {E D : Type 0} (state : D → DiskState) where
   abbrev pub left_at : Held E D → PartId → Durable E D → Option ℕ
   left_at c p other = (disk_in state (get_or c.partitions (index_of c.parts p) other)).left
 
+  -- no fuse is on the disk of this partition, or one that has fired, and the partition is down
+  abbrev pub IsDark : Durable E D → Type 0
+  IsDark t = ((disk_in state t).left ≡ None) ⊎ (((disk_in state t).left ≡ Some 0) × (is_down t ≡ true))
+
+  -- where its disk fails only by a fuse, and none of the script is in force
+  abbrev pub IsDarkBy : Option Fuse → Durable E D → Type 0
+  IsDarkBy f t = FailsByFuse (disk_in state t) → f ≡ None → IsDark t
+
+  -- a line that told of a fault of this partition, which is there, came where this fuse was in force, if its disk fails only by one
+  pub record FailedBy (c : Held E D) (f : Option Fuse) (p : PartId) : Type 0 where
+    pub place : IsPlace c.sites c.parts p
+    pub part : Durable E D
+    pub there : IsAt c p part
+    pub fused : FailsByFuse (disk_in state part) → f ≢ None
+
+  -- where a cluster stood
+  abbrev pub IsFailedBy : Held E D → List Line → Run → Step → Type 0
+  IsFailedBy c whole run (step.Disk p) = has_cluster run ≡ true → FailedBy c (fuse whole run p) p
+  IsFailedBy c whole run (step.Unsure t) = has_cluster run ≡ true → FailedBy c (fuse whole run (lead (parts_of run) (calls_of run) t)) (lead (parts_of run) (calls_of run) t)
+  IsFailedBy c whole run other = ⊤
+
+  abbrev pub AreFailedBy : Held E D → List Line → Run → Type 0
+  AreFailedBy c whole [] = ⊤
+  AreFailedBy c whole (l ∷ run) = IsFailedBy c whole run l.step × AreFailedBy c whole run
+
+  -- where no fuse of the script is in force, no disk fails by one, and none did
+  pub record IsLit (c : Held E D) (whole : List Line) (run : Run) : Type 0 where
+    pub dark : (p : PartId) → IsPlace c.sites c.parts p → (t : Durable E D) → IsAt c p t → IsDarkBy (fuse whole run p) t
+    pub failed : AreFailedBy c whole run
+
   -- the fuses in force after this run of a script burn on the disks of the cluster, and none let more pass than it may
   pub record IsFueled (c : Held E D) (whole : List Line) (run : Run) : Type 0 where
     pub keeps : KeepFuses whole run
     pub unfired : (p : PartId) → IsUnfired (fuse whole run p)
     pub burns : (p : PartId) (other : Durable E D) → BurnsAt (holds_part c p) (fuse whole run p) (left_at c p other)
+    pub lit : IsLit c whole run
 
   -- whatever the whole run will be, if it tells of these events what they brought
   abbrev pub Fueled : Held E D → Run → List (Entry E) → Type 0
@@ -88,6 +129,10 @@ pub record Spent {S E D : Type 0} (w : Types S E D) (old new : Held E D) (at : P
 -- what the line of a call of this partition tells of its disk: that it failed, where it did, and what it took of its calls
 abbrev pub TellsCall : {S E D : Type 0} (w : Types S E D) → Held E D → Held E D → PartId → Step → Type 0
 TellsCall w old new at line = TellsFault w.state old new at line × Spent w old new at line
+
+-- no fuse on the disk of this partition has fired
+abbrev pub IsUnfiredAt : {E D : Type 0} → (D → DiskState) → Held E D → PartId → Type 0
+IsUnfiredAt {E} {D} state c p = (t : Durable E D) → IsAt c p t → (disk_in state t).left ≢ Some 0
 
 -- where no fuse is on the disk of this partition, none comes
 abbrev pub StaysUnarmed : {E D : Type 0} → (D → DiskState) → Held E D → Held E D → PartId → Type 0

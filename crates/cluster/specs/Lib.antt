@@ -13,3 +13,4 @@ pub mod Acts
 pub mod Ends
 pub mod Fates
 pub mod Post
+pub mod Fused

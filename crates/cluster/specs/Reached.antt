@@ -131,9 +131,9 @@ module _ {S E D : Type 0} (types : Types S E D) where
   Reached None run = IsBefore run
   Reached (Some w) run = ReachedWhole w run
 
-  -- where a cluster stood and stands, and a line tells that a disk failed, its count of faults rose
+  -- where a cluster stood and stands, it has the same disks, and where a line tells that one failed, its count of faults rose
   abbrev pub FaultsShown : Option (WholeState E D) → Run → List Step → Option (WholeState E D) → Type 0
-  FaultsShown (Some old) run steps (Some new) = ShowFaults types.state run old.live.sites new.live.sites steps
+  FaultsShown (Some old) run steps (Some new) = SameCluster types.state old.live.sites new.live.sites × ShowFaults types.state run old.live.sites new.live.sites steps
   FaultsShown old run steps new = ⊤
 
   -- whatever run had left the old cluster, these lines answer the command in it, and leave the new one

@@ -30,9 +30,10 @@ module _ {E D : Type 0} (state : D → DiskState) where
     pub parts_are : new.parts ≡ old.parts
     pub faults : (p : PartId) (other : Durable E D) → faults_at old p other ≤ faults_at new p other
     pub rooms : (p : PartId) (other : Durable E D) → room_at new p other ≡ room_at old p other
+    pub sounds : (p : PartId) (other : Durable E D) → (disk_at new p other).sound ≡ (disk_at old p other).sound
 
   pub same_refl : (c : Held E D) → SameCluster c c
-  same_refl c = record { sites_are = refl; parts_are = refl; faults = λ p other. omega arith; rooms = λ p other. refl }
+  same_refl c = record { sites_are = refl; parts_are = refl; faults = λ p other. omega arith; rooms = λ p other. refl; sounds = λ p other. refl }
 
   pub same_trans : (a b c : Held E D) → SameCluster a b → SameCluster b c → SameCluster a c
   same_trans a b c s t = record {
@@ -40,4 +41,5 @@ module _ {E D : Type 0} (state : D → DiskState) where
     parts_are = t.parts_are ∙ s.parts_are;
     faults = λ p other. at_most (faults_at a p other) (faults_at b p other) (faults_at c p other) (s.faults p other) (t.faults p other);
     rooms = λ p other. t.rooms p other ∙ s.rooms p other;
+    sounds = λ p other. t.sounds p other ∙ s.sounds p other;
   }

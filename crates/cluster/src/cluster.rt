@@ -1,8 +1,11 @@
-ghost use Rattle.std.specs.Prelude.{◌≡◌, ◌≤◌, ◌*◌, [], ◌∷◌, length, false, None, IfOk, IfErr, OnErr};
+ghost use Rattle.std.specs.Prelude.{◌≡◌, ◌≤◌, ◌*◌, ℕ, [], ◌∷◌, length, false, None, IfOk, IfErr, OnErr};
 ghost use Rattle.disk_core.specs.Fuses.{fused_state};
 ghost use Rattle.site_partitions.specs.Made.{AreBlank, HandsBack};
 ghost use Rattle.site_partitions.specs.Reaches.{types_of};
+ghost use Rattle.site_partitions.specs.Sound.{AllSound};
+ghost use Rattle.world_model.specs.commands.Run.{Run};
 ghost use Rattle.cluster.specs.Built.{IsSaid, is_making};
+ghost use Rattle.cluster.specs.Fused.{AreSoundIn, StaysFused};
 ghost use Rattle.cluster.specs.Reached.{Applies, IsReached, Reached, FedIn, SetsFuseIn, SizedIn, parts_in, partitions_in};
 
 use crate::running::Running;
@@ -59,7 +62,8 @@ impl<C: Crdt, D: Disk + Drop> Cluster<C, D> {
         }
     }
 
-    /// Makes a cluster over formatted disks, one for each partition, site by site. Answers the lines of the command.
+    /// Makes a cluster over formatted disks, one for each partition, site by site. A fuse that is armed on one is taken
+    /// away. Answers the lines of the command.
     ///
     /// # Errors
     ///
@@ -78,6 +82,7 @@ impl<C: Crdt, D: Disk + Drop> Cluster<C, D> {
         requires all { length disks.items ≡ sites * parts }
         requires blank { AreBlank (fused_state D.state) disks.items }
         ensures ok { IfOk result (λ steps. Applies (types_of C.laws C.spells (fused_state D.state)) self.old (Command.Cluster sites parts) steps.items self.new) }
+        ensures sound { IfOk result (λ steps. AllSound (fused_state D.state) disks.items → AreSoundIn (fused_state D.state) self.new) }
         ensures err { OnErr result (self.new ≡ None) }
         ensures failed { IfErr result (λ e. HandsBack (fused_state D.state) sites parts disks.items e) }
     {
@@ -87,7 +92,8 @@ impl<C: Crdt, D: Disk + Drop> Cluster<C, D> {
         Ok(steps)
     }
 
-    /// The lines that answer a command, but for the one that makes a cluster where there is none.
+    /// The lines that answer a command, but for the one that makes a cluster where there is none. Over sound disks, one
+    /// that a line tells to have failed did so by a fuse that a command armed, and that was in force.
     ///
     /// # Errors
     ///
@@ -99,6 +105,8 @@ impl<C: Crdt, D: Disk + Drop> Cluster<C, D> {
         ensures ok { IfOk result (λ steps. Applies (types_of C.laws C.spells (fused_state D.state)) self.old command.now steps.items self.new) }
         ensures fed { IfOk result (λ steps. FedIn (fused_state D.state) self.new steps.items) }
         ensures fuse { IfOk result (λ steps. SetsFuseIn (fused_state D.state) command.now self.old self.new) }
+        ensures sound { IfOk result (λ steps. AreSoundIn (fused_state D.state) self.old → AreSoundIn (fused_state D.state) self.new) }
+        ensures fused { IfOk result (λ steps. AreSoundIn (fused_state D.state) self.old → (number : ℕ) (run : Run) → Reached (types_of C.laws C.spells (fused_state D.state)) self.old run → StaysFused number command.now steps.items run) }
         ensures err { OnErr result (self.new ≡ None) }
     {
         match answer(self.alloc, &mut self.live, command) {
@@ -147,6 +155,7 @@ fn answer<C: Crdt, D: Disk + Drop>(
     requires reached { IsReached (types_of C.laws C.spells (fused_state D.state)) live.old }
     ensures applies { IfOk result (λ steps. Applies (types_of C.laws C.spells (fused_state D.state)) live.old command.now steps.items live.new) }
     ensures fuse { IfOk result (λ steps. SetsFuseIn (fused_state D.state) command.now live.old live.new) }
+    ensures none { IfOk result (λ steps. live.old ≡ None → (live.new ≡ None) × (steps.items ≡ Step.NoCluster ∷ [])) }
 {
     match live {
         Some(cluster) => {

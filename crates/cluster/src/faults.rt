@@ -4,7 +4,7 @@ ghost use Rattle.site_vector.specs.declared.ids.PartId.{PartId as Place};
 ghost use Rattle.site_partitions.specs.Reaches.{types_of};
 ghost use Rattle.cluster.specs.Built.{IsSaid, is_of_faults};
 ghost use Rattle.cluster.specs.Faults.{AreFed, IsFed};
-ghost use Rattle.cluster.specs.Fuel.{SetsFuse, StaysUnarmed};
+ghost use Rattle.cluster.specs.Fuel.{IsUnfiredAt, SetsFuse, StaysUnarmed};
 ghost use Rattle.cluster.specs.Reached.{AppliesLive, IsReachedLive};
 
 use crate::cluster::only;
@@ -89,6 +89,7 @@ impl<C: Crdt, D: Disk + Drop> Live<C, D> {
     fn come_up(&mut self, part: PartId) -> Result<Vec<Step>, AllocError>
         requires place { IsPlace self.old.sites.sites self.old.sites.parts part }
         requires reached { IsReachedLive (types_of C.laws C.spells D.state) self.old }
+        requires unfired { IsUnfiredAt D.state self.old.sites part }
         ensures applies { IfOk result (λ steps. AppliesLive (types_of C.laws C.spells D.state) self.old (Command.Restart part) steps.items self.new) }
         ensures unarmed { IfOk result (λ steps. StaysUnarmed D.state self.old.sites self.new.sites part) }
     {

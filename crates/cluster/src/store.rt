@@ -1,4 +1,4 @@
-ghost use Rattle.std.specs.Prelude.{◌≡◌, ℕ, List, true};
+ghost use Rattle.std.specs.Prelude.{◌≡◌, ℕ, List, true, ⊤};
 ghost use Rattle.partition_core.specs.Answers.{cause};
 ghost use Rattle.site_partitions.specs.Reaches.{types_of};
 ghost use Rattle.cluster.specs.Fuel.{TellsCall};
@@ -25,13 +25,16 @@ pub(crate) const NO_TX: TxId = TxId {
     time: 0,
 };
 
-/// On one thread nobody acts meanwhile, and all calls are of one caller.
+/// On one thread nobody acts meanwhile, and all calls are of one caller: no pass is split.
 impl<C: Crdt, D: Disk + Drop> Store<C> for Local<C, D> {
     type Pass = ();
 
     ghost sees = { λ c pass calls. Sees (types_of C.laws C.spells D.state) c calls };
 
     ghost numbers = { λ pass n. true };
+
+    /// Whoever numbers messages and reports does so for the whole script.
+    ghost numbered = { λ own number. ⊤ };
 
     ghost sites = { λ c. c.sites };
 
@@ -225,10 +228,13 @@ impl<C: Crdt, D: Disk + Drop> Store<C> for Local<C, D> {
         at: PartId,
         to: u8,
         from: Option<u64>,
-    ) -> ((), Result<Result<Message<C::Effect>, Step>, AllocError>) {
+    ) -> (
+        (),
+        Result<Result<(Message<C::Effect>, u64), Step>, AllocError>,
+    ) {
         match self.all.release_at(at, to, from) {
             Ok(message) => {
-                return (pass, Ok(Ok(message)));
+                return (pass, Ok(Ok((message, 0))));
             }
             Err(error) => match failed(at, NO_TX, 0, error) {
                 Ok(line) => {
@@ -259,10 +265,14 @@ impl<C: Crdt, D: Disk + Drop> Store<C> for Local<C, D> {
         }
     }
 
-    fn report(&mut self, pass: (), at: PartId) -> ((), Result<Result<VTime, Step>, AllocError>) {
+    fn report(
+        &mut self,
+        pass: (),
+        at: PartId,
+    ) -> ((), Result<Result<(VTime, u64), Step>, AllocError>) {
         match self.all.report_at(at) {
             Ok(bounds) => {
-                return (pass, Ok(Ok(bounds)));
+                return (pass, Ok(Ok((bounds, 0))));
             }
             Err(error) => match failed(at, NO_TX, 0, error) {
                 Ok(line) => {
@@ -293,13 +303,13 @@ impl<C: Crdt, D: Disk + Drop> Store<C> for Local<C, D> {
                 return (pass, Ok(step));
             }
             Err(error) => {
-                return (pass, failed(at, NO_TX, 0, error));
+                return (pass, failed(at, NO_TX, number, error));
             }
         }
     }
 
     fn split(&mut self, pass: ()) -> Result<((), ()), ()> {
-        Ok((pass, ()))
+        Err(pass)
     }
 
     fn meet(&mut self, first: (), second: ()) {}

@@ -1,5 +1,5 @@
 -- What a message that was sent brings: parts of its site's transactions, no two of one, with an entry for each site.
-use Rattle.std.proofs.Common.{◌≡◌, ◌≢◌, ℕ, ◌<◌, ◌≤◌, Bool, true, false, List, [], ◌∷◌, length, get_or, refl, sym, ap, ◌∙◌, subst, None, Some}
+use Rattle.std.proofs.Common.{◌≡◌, ◌≢◌, ℕ, ◌<◌, ◌≤◌, Bool, true, false, List, [], ◌∷◌, length, refl, sym, ap, ◌∙◌, subst, None, Some}
 use Rattle.std.specs.Prelude.{◌&&◌}
 use Rattle.std.specs.List.{list_all}
 use Rattle.std.specs.Ordering.{is_lt}
@@ -41,9 +41,9 @@ use Rattle.partition_core.specs.Messages.{AreApart, AreWideParts}
 use Rattle.world_model.proofs.Whole.{part_begun}
 use Rattle.partition_core.specs.Durable.{Durable, StandsUp, is_down}
 use Rattle.partition_core.proofs.Callers.{holds_no_news}
-use Rattle.site_partitions.specs.Held.{Held, IsSized, index_of}
-use Rattle.site_partitions.specs.Reaches.{Types, StandsAt, MayAsk}
-use Rattle.site_partitions.proofs.Asking.{at_place, up_place, begun_is_tx}
+use Rattle.site_partitions.specs.Asked.{IsAskable}
+use Rattle.site_partitions.specs.Reaches.{Types}
+use Rattle.site_partitions.proofs.Asking.{up_of, tx_of}
 use Rattle.site_partitions.proofs.Changes.{changes_put}
 use Rattle.site_partitions.proofs.Naming.{or_falses, is_new}
 
@@ -102,37 +102,33 @@ module _ {S E : Type 0} (kinds : Kinds S E) (sites parts : ℕ) (run : List (Ent
   pub apart : AreApart m.parts
   apart = apart_parts (commit_vector (plan_of sites parts run) run) (λ u. (plan_of sites parts run).updates u (twin m.from at)) m.from m.parts exact.exact exact.order
 
-module _ {S E D : Type 0} (w : Types S E D) (sites parts : ℕ) (items : List (Durable E D)) (c : Held E D) (view : record { sites = sites; parts = parts; partitions = items } ≡ c) (at : PartId) (i : ℕ) (found : i ≡ index_of parts at) (t : Durable E D) (read : t ≡ get_or items i t) (number : ℕ) (m : Message E) (may : MayAsk w c at (AskTake number m)) where
-  here : StandsAt w c.sites c.parts at t (may.reached.state at)
-  here = at_place w sites parts items c view at i found t read may.run may.reached may.place
-
+module _ {S E D : Type 0} (w : Types S E D) (sites parts : ℕ) (at : PartId) (t : Durable E D) (number : ℕ) (m : Message E) (may : IsAskable w sites parts at t (AskTake number m)) where
   pub take_most : m.from ≤ t.tables.sites
-  take_most = subst (λ n. m.from ≤ n) (sym here.sites_are) may.allowed.from.most
+  take_most = subst (λ n. m.from ≤ n) (sym may.stands.sites_are) may.allowed.from.most
 
   pub take_wide : AreWideParts t.tables.sites m.parts
-  take_wide = subst (λ n. AreWideParts n m.parts) (sym here.sites_are) (wide w.kinds c.sites c.parts may.run may.reached.state may.reached.is_run at number m may.allowed)
+  take_wide = subst (λ n. AreWideParts n m.parts) (sym may.stands.sites_are) (wide w.kinds sites parts may.run may.state may.is_run at number m may.allowed)
 
   pub take_apart : AreApart m.parts
-  take_apart = apart w.kinds c.sites c.parts may.run may.reached.state may.reached.is_run at number m may.allowed
+  take_apart = apart w.kinds sites parts may.run may.state may.is_run at number m may.allowed
 
   pub take_away : (u : TxId) → lists m.parts u ≡ true → u.site ≢ t.tables.id.site
-  take_away u h e = away w.kinds c.sites c.parts may.run may.reached.state may.reached.is_run at number m may.allowed u h (e ∙ ap (λ (p : PartId). p.site) here.id)
+  take_away u h e = away w.kinds sites parts may.run may.state may.is_run at number m may.allowed u h (e ∙ ap (λ (p : PartId). p.site) may.stands.id)
 
-  unheld_at : (may.reached.state at).up ≡ true → (u : TxId) → lists (above m.from (entry (may.reached.state at).bounds m.from) m.parts) u ≡ true → holds (may.reached.state at).log u ≡ false
+  unheld_at : (may.state at).up ≡ true → (u : TxId) → lists (above m.from (entry (may.state at).bounds m.from) m.parts) u ≡ true → holds (may.state at).log u ≡ false
   unheld_at up u h =
-      let new = is_new u (may.reached.state at).log ((premises w.kinds c.sites c.parts may.run may.reached.state may.reached.is_run).unheld at number m u may.place may.allowed up h) in or_falses _ _ new.committed new.taken
+      let new = is_new u (may.state at).log ((premises w.kinds sites parts may.run may.state may.is_run).unheld at number m u may.place may.allowed up h) in or_falses _ _ new.committed new.taken
 
   pub take_unheld : is_down t ≡ false → (u : TxId) → lists (above m.from (entry t.tables.bounds m.from) m.parts) u ≡ true → lists t.tables.held u ≡ false
   take_unheld down u h =
-      let up : StandsUp w.codec w.state t (may.reached.state at) = up_place w sites parts items c view at i found t read may.run may.reached may.place down in
-      holds_no_news t.tables (may.reached.state at) up.tables m (unheld_at up.tables.up) u h
+      let up : StandsUp w.codec w.state t (may.state at) = up_of w sites parts at t (AskTake number m) may down in
+      holds_no_news t.tables (may.state at) up.tables m (unheld_at up.tables.up) u h
 
-module _ {S E D : Type 0} (w : Types S E D) (sites parts : ℕ) (items : List (Durable E D)) (c : Held E D) (view : record { sites = sites; parts = parts; partitions = items } ≡ c) (size : IsSized sites parts (length items)) (at : PartId) (number : ℕ) (m : Message E) (may : MayAsk w c at (AskTake number m)) where
   -- what was sent can be put into a log
   pub take_put : can_put_message w.kinds.has w.is_of w.can_put m ≡ true
-  take_put = put_parts w.kinds c.sites c.parts may.run may.reached.state may.reached.is_run at number m may.allowed w.kinds.has w.is_of w.can_put
+  take_put = put_parts w.kinds sites parts may.run may.state may.is_run at number m may.allowed w.kinds.has w.is_of w.can_put
       (λ u k.
-      let part = takes w.kinds c.sites c.parts may.run may.reached.state may.reached.is_run at number m may.allowed u k in
-      and_true (is_tx u) (can_put_updates w.kinds.has w.is_of w.can_put ((plan_of c.sites c.parts may.run).updates u (twin m.from at)))
-      (begun_is_tx w sites parts items c view size u (record { run = may.run; reached = may.reached; begun = part_begun c.sites may.run u (twin m.from at) part }))
-      (changes_put w c.sites c.parts may.run may.reached.state may.reached.is_run may.reached.puts u (twin m.from at) part))
+      let part = takes w.kinds sites parts may.run may.state may.is_run at number m may.allowed u k in
+      and_true (is_tx u) (can_put_updates w.kinds.has w.is_of w.can_put ((plan_of sites parts may.run).updates u (twin m.from at)))
+      (tx_of w sites parts at t (AskTake number m) may u (part_begun sites may.run u (twin m.from at) part))
+      (changes_put w sites parts may.run may.state may.is_run may.puts u (twin m.from at) part))

@@ -1,8 +1,10 @@
 pub mod Held
 pub mod Moves
 pub mod Reaches
+pub mod Asked
 pub mod Answers
 pub mod Faults
 pub mod Fates
 pub mod Made
 pub mod Starved
+pub mod Sound

@@ -1,13 +1,18 @@
 // How the partitions of a cluster come up over their disks.
-ghost use Rattle.std.specs.Prelude.{◌≡◌, ◌≤◌, ◌+◌, ◌*◌, ◌++◌, [], ◌∷◌, length, IfOk, IfErr, OnOk};
+ghost use Rattle.std.specs.Prelude.{◌≡◌, ◌≤◌, ◌+◌, ◌*◌, ◌++◌, [], ◌∷◌, length, None, IfOk, IfErr, OnOk};
+ghost use Rattle.disk_core.specs.Fuses.{fused_state};
+ghost use Rattle.partition_core.specs.Durable.{StandsOn, disk_in};
+ghost use Rattle.partition_log.specs.Codec.{codec_of};
+ghost use Rattle.world_model.specs.rules.Partition.{PartState};
 ghost use Rattle.site_partitions.specs.Held.{index_of};
 ghost use Rattle.site_partitions.specs.Made.{AreBlank, HandsBack};
 ghost use Rattle.site_partitions.specs.Reaches.{types_of, Reaches};
+ghost use Rattle.site_partitions.specs.Sound.{AreSound, AreUnarmed, AllSound};
 ghost use Rattle.site_partitions.specs.declared.make.MakeError.TheVariants.{NoMemory};
 
 use crate::Sites;
 use crdt_core::Crdt;
-use disk_core::Disk;
+use disk_core::{Disk, Fused};
 use partition_core::{DurablePartition, RestartError};
 use site_vector::PartId;
 use std::alloc::{AllocError, Global};
@@ -33,9 +38,9 @@ impl<D: Drop> From<AllocError> for MakeError<D> {
     }
 }
 
-impl<C: Crdt, D: Disk + Drop> Sites<C, D> {
+impl<C: Crdt, D: Disk + Drop> Sites<C, Fused<D>> {
     /// The partitions of a cluster whose logs these disks hold: one disk for each, site by site. They hold nothing over
-    /// disks that are formatted.
+    /// disks that are formatted. No fuse is armed on a disk then.
     ///
     /// # Errors
     ///
@@ -44,16 +49,18 @@ impl<C: Crdt, D: Disk + Drop> Sites<C, D> {
         alloc: Global,
         sites: u8,
         parts: u8,
-        disks: Vec<D>,
-    ) -> Result<Sites<C, D>, MakeError<D>>
+        disks: Vec<Fused<D>>,
+    ) -> Result<Sites<C, Fused<D>>, MakeError<Fused<D>>>
         requires least_site { 1 ≤ sites }
         requires most_sites { sites ≤ 8 }
         requires least_part { 1 ≤ parts }
         requires most_parts { parts ≤ 16 }
         requires all { length disks.items ≡ sites * parts }
         ensures size { IfOk result (λ c. (c.sites ≡ sites) × (c.parts ≡ parts)) }
-        ensures reaches { IfOk result (λ c. AreBlank D.state disks.items → Reaches (types_of C.laws C.spells D.state) c []) }
-        ensures failed { IfErr result (λ e. HandsBack D.state sites parts disks.items e) }
+        ensures reaches { IfOk result (λ c. AreBlank (fused_state D.state) disks.items → Reaches (types_of C.laws C.spells (fused_state D.state)) c []) }
+        ensures unarmed { IfOk result (λ c. AreUnarmed (fused_state D.state) c) }
+        ensures sound { IfOk result (λ c. AllSound (fused_state D.state) disks.items → AreSound (fused_state D.state) c) }
+        ensures failed { IfErr result (λ e. HandsBack (fused_state D.state) sites parts disks.items e) }
     {
         let mut partitions = Vec::new(alloc);
         let mut part = PartId { site: 1, part: 1 };
@@ -63,7 +70,7 @@ impl<C: Crdt, D: Disk + Drop> Sites<C, D> {
                     return Err(MakeError::Partition { part, disk, error });
                 }
                 Ok(partition) => {
-                    add(&mut partitions, partition)?;
+                    add(&mut partitions, unarmed(partition))?;
                 }
             }
             part = next_part(part, parts);
@@ -75,13 +82,31 @@ impl<C: Crdt, D: Disk + Drop> Sites<C, D> {
             partitions,
         })
     }
+}
 
+impl<C: Crdt, D: Disk + Drop> Sites<C, D> {
     /// The partitions, site by site, each with its disk.
     pub fn into_partitions(self) -> Vec<DurablePartition<C, D>>
         ensures { result.items ≡ self.partitions }
     {
         self.partitions
     }
+}
+
+/// The partition, with no fuse armed on its disk.
+fn unarmed<C: Crdt, D: Disk + Drop>(
+    partition: DurablePartition<C, Fused<D>>,
+) -> DurablePartition<C, Fused<D>>
+    ensures left { (disk_in (fused_state D.state) result).left ≡ None }
+    ensures sound { (disk_in (fused_state D.state) result).sound ≡ (disk_in (fused_state D.state) partition).sound }
+    ensures same { result.tables ≡ partition.tables }
+    ensures stands { (p : PartState C.Effect) → StandsOn (codec_of C.spells) (fused_state D.state) partition p → StandsOn (codec_of C.spells) (fused_state D.state) result p }
+{
+    let mut partition = partition;
+    // One that has fired is taken away, whatever was armed before.
+    partition.arm(0, 0);
+    partition.revive();
+    partition
 }
 
 fn add<T: Drop>(list: &mut Vec<T>, one: T) -> Result<(), AllocError>

@@ -1,5 +1,5 @@
-use Rattle.std.proofs.Common.{sym, subst}
-use Rattle.std.specs.Prelude.{IfOk, Option, Some}
+use Rattle.std.proofs.Common.{◌≡◌, ◌∙◌, sym, subst}
+use Rattle.std.specs.Prelude.{IfOk, Option, Some, None}
 use Rattle.disk_core.specs.Fuses.{fused_state}
 use Rattle.site_partitions.specs.Reaches.{types_of}
 use Rattle.cluster.specs.Post.{WholeState}
@@ -20,3 +20,12 @@ returns-in-Some-clause-fuse g c = subst (λ (o : Option (WholeState g.row.C-Effe
 
 pub returns-in-None-clause-fuse : goal.returns-in-None-clause-fuse
 returns-in-None-clause-fuse g c = subst (λ (o : Option (WholeState g.row.C-Effect.Denot _)). IfOk c.only.result (λ steps. SetsFuseIn (fused_state g.D.Disk.state) c.args.command.now o o)) (sym c.in-None.is) (ever_ok c.only.result (λ steps. tt))
+
+some_none : {A P : Type 0} (x : A) → Some x ≡ None → P
+some_none x h = absurd cc
+
+pub returns-in-Some-clause-none : goal.returns-in-Some-clause-none
+returns-in-Some-clause-none g c = ever_ok c.apply.result (λ steps e. some_none _ (sym c.in-Some.is ∙ e))
+
+pub returns-in-None-clause-none : goal.returns-in-None-clause-none
+returns-in-None-clause-none g c = map_ok c.only.result (λ steps is e. (c.in-None.is, is)) c.only.ensures

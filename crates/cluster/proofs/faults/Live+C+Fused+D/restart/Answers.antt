@@ -8,7 +8,7 @@ use Rattle.cluster.specs.Live.{LiveState}
 use Rattle.cluster.specs.Reached.{AppliesLive, IsReachedLive}
 use Rattle.cluster.proofs.Applying.{map_ok}
 use Rattle.cluster.specs.Fuel.{SetsFuse}
-use Rattle.cluster.proofs.Fusing.{ever_ok, no_restart, taken_away}
+use Rattle.cluster.proofs.Fusing.{ever_ok, no_restart, taken_away, unfired_at}
 use Rattle.cluster.proofs.Striking.{place_of_here, reached_still, restart_nowhere, revived}
 use Rattle.cluster.proofs.faults.Live+C+Fused+D.restart.Goals as goal
 
@@ -25,6 +25,14 @@ come_up-requires-clause-place g c =
     let m = c.revive_at.ensures.moves in
     subst (λ n. IsPlace n c.revive_at.new.self.parts c.args.part) (sym m.same_sites) (subst (λ n. IsPlace c.self-inside.inside.0.1.0.all.sites n c.args.part) (sym m.same_parts)
     (place_of_here _ c.args.self.now ((λ i. record { sites = (c.self-inside.view_is i).sites; sessions = (c.self-inside.view_is i).sessions.entries }) ∙ c.self.view_is) c.args.part (sym c.has_part.ensures ∙ c.if-not-has_part.false)))
+
+pub come_up-requires-clause-unfired : goal.come_up-requires-clause-unfired
+come_up-requires-clause-unfired g c =
+    let types = types_of g.C.Crdt.laws g.C.Crdt.spells (fused_state g.D.Disk.state) in
+    unfired_at types c.self-inside.inside.0.1.0.all c.revive_at.new.self c.args.part c.revive_at.ensures (
+    let m = c.revive_at.ensures.moves in
+    subst (λ n. IsPlace n c.revive_at.new.self.parts c.args.part) (sym m.same_sites) (subst (λ n. IsPlace c.self-inside.inside.0.1.0.all.sites n c.args.part) (sym m.same_parts)
+    (place_of_here _ c.args.self.now ((λ i. record { sites = (c.self-inside.view_is i).sites; sessions = (c.self-inside.view_is i).sessions.entries }) ∙ c.self.view_is) c.args.part (sym c.has_part.ensures ∙ c.if-not-has_part.false))))
 
 pub come_up-requires-clause-reached : goal.come_up-requires-clause-reached
 come_up-requires-clause-reached g c =

@@ -10,6 +10,7 @@ use Rattle.cluster.specs.Reached.{AppliesLive, IsReachedLive}
 use Rattle.cluster.proofs.Applying.{map_ok}
 use Rattle.cluster.specs.Fuel.{StaysUnarmed}
 use Rattle.cluster.proofs.Fusing.{ever_ok, unarmed}
+use Rattle.cluster.specs.Fuel.{IsUnfiredAt}
 use Rattle.cluster.proofs.Striking.{came_up, stayed_down, never_damaged, holds_place}
 use Rattle.cluster.proofs.live.Live.come_up.Goals as goal
 
@@ -26,7 +27,7 @@ returns-in-Disk-clause-applies g c =
     let v : LiveState g.row.C-Effect.Denot _ = record { sites = c.self-inside.inside.0.1.0.all; sessions = c.self-inside.inside.0.1.1.0.entries } in
     let k = (subst (λ (e : RestartError). RestartsAt (types_of g.C.Crdt.laws g.C.Crdt.spells g.D.Disk.state) v.sites c.restart_at.new.self c.args.part (Err e)) c.in-Disk.is c.in-Err.ensures) in
     map_ok c.only-in-Disk.result (λ steps is. subst (λ (x : LiveState g.row.C-Effect.Denot _). AppliesLive types x (command.Restart c.args.part) steps.items (record { sites = c.restart_at.new.self; sessions = c.self-inside.inside.0.1.1.0.entries })) ((λ i. record { sites = (c.self-inside.view_is i).sites; sessions = (c.self-inside.view_is i).sessions.entries }) ∙ c.self.view_is)
-    (stayed_down types v c.args.part c.restart_at.new.self steps.items is (holds_place v c.args.self.now ((λ i. record { sites = (c.self-inside.view_is i).sites; sessions = (c.self-inside.view_is i).sessions.entries }) ∙ c.self.view_is) c.args.part c.requires.place) k.0 k.1.rose)) c.only-in-Disk.ensures
+    (stayed_down types v c.args.part c.restart_at.new.self steps.items is (holds_place v c.args.self.now ((λ i. record { sites = (c.self-inside.view_is i).sites; sessions = (c.self-inside.view_is i).sessions.entries }) ∙ c.self.view_is) c.args.part c.requires.place) k.0 k.1 (subst (λ (x : LiveState g.row.C-Effect.Denot _). IsUnfiredAt g.D.Disk.state x.sites c.args.part) (sym ((λ i. record { sites = (c.self-inside.view_is i).sites; sessions = (c.self-inside.view_is i).sessions.entries }) ∙ c.self.view_is)) c.requires.unfired))) c.only-in-Disk.ensures
 
 pub returns-in-Damaged-clause-applies : goal.returns-in-Damaged-clause-applies
 returns-in-Damaged-clause-applies g c =

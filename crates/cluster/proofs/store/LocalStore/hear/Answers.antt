@@ -1,50 +1,51 @@
-use Rattle.std.proofs.Common.{◌≡◌, refl, None}
+use Rattle.std.proofs.Common.{◌≡◌, refl, None, subst}
 use Rattle.std.specs.Prelude.{ℕ, List, Ok, Err}
 use Rattle.world_model.specs.declared.step.Step.TheVariants as step
 use Rattle.world_model.specs.rules.Event as event
 use Rattle.world_model.specs.rules.Event.{Event}
 use Rattle.site_partitions.specs.Answers.{Any}
 use Rattle.site_partitions.specs.Reaches.{types_of}
-use Rattle.cluster.proofs.Seeing.{calls_here, exact_on, failed_on, failed_stays, called_same, fault_of, may_here}
-use Rattle.cluster.proofs.FuelStore.{exact_tells, failed_tells_call}
+use Rattle.cluster.specs.Sees.{FailedAs}
+use Rattle.cluster.proofs.Seeing.{calls_here, hands_on, hands_failed, failed_own, failed_keeps, called_same, fault_of, if_each, may_here}
+use Rattle.cluster.proofs.FuelStore.{exact_tells, line_tells_call}
 use Rattle.cluster.proofs.store.LocalStore.hear.Goals as goal
 
 pub hear_at-requires : goal.hear_at-requires
-hear_at-requires g c = (c.args.number, may_here (types_of g.C.Crdt.laws g.C.Crdt.spells g.D.Disk.state) _ _ c.self.view_is c.args.pass None c.args.at (event.AskHear c.args.number c.args.part c.args.bounds.now) c.requires.may)
+hear_at-requires g c = (c.requires.may.0, may_here (types_of g.C.Crdt.laws g.C.Crdt.spells g.D.Disk.state) _ _ c.self.view_is c.args.pass None c.args.at (event.AskHear c.requires.may.0 c.args.part c.args.bounds.now) c.requires.may.2)
 
 pub returns-in-Ok-clause-ok : goal.returns-in-Ok-clause-ok
-returns-in-Ok-clause-ok g c run s a =
+returns-in-Ok-clause-ok g c own n run s a =
     let types = types_of g.C.Crdt.laws g.C.Crdt.spells g.D.Disk.state in
-    exact_on types c.args.self.now c.hear_at.new.self Any c.args.at (event.AskHear c.args.number c.args.part c.args.bounds.now) c.args.pass None (event.Heard c.args.number c.args.part c.args.bounds.now c.in-Ok.stable) (calls_here types _ c.args.self.now c.hear_at.new.self c.self.view_is Any c.args.at (event.AskHear c.args.number c.args.part c.args.bounds.now) (λ (n : List ℕ) (e : Event g.row.C-Effect.Denot). e ≡ event.Heard c.args.number c.args.part c.args.bounds.now n) (Ok c.in-Ok.stable) (c.in-Ok.ensures.answers c.args.number)) (step.Heard c.args.number c.args.at c.in-Ok.stable) (λ calls. refl) refl run s a.may tt tt
+    hands_on types c.args.self.now c.hear_at.new.self Any c.args.at (event.AskHear own c.args.part c.args.bounds.now) c.args.pass (event.Heard own c.args.part c.args.bounds.now c.in-Ok.stable) (calls_here types _ c.args.self.now c.hear_at.new.self c.self.view_is Any c.args.at (event.AskHear own c.args.part c.args.bounds.now) (λ (n : List ℕ) (e : Event g.row.C-Effect.Denot). e ≡ event.Heard own c.args.part c.args.bounds.now n) (Ok c.in-Ok.stable) (c.in-Ok.ensures.answers own)) (step.Heard own c.args.at c.in-Ok.stable) (step.Heard c.args.number c.args.at c.in-Ok.stable) c.args.number refl (λ calls. refl) refl run s a.may tt
 
 pub returns-in-Ok-clause-stays : goal.returns-in-Ok-clause-stays
 returns-in-Ok-clause-stays g c =
     let types = types_of g.C.Crdt.laws g.C.Crdt.spells g.D.Disk.state in
-    called_same types c.args.self.now c.hear_at.new.self Any c.args.at (event.AskHear c.args.number c.args.part c.args.bounds.now) c.args.pass None (λ (n : List ℕ) (e : Event g.row.C-Effect.Denot). e ≡ event.Heard c.args.number c.args.part c.args.bounds.now n) (Ok c.in-Ok.stable) (calls_here types _ c.args.self.now c.hear_at.new.self c.self.view_is Any c.args.at (event.AskHear c.args.number c.args.part c.args.bounds.now) (λ (n : List ℕ) (e : Event g.row.C-Effect.Denot). e ≡ event.Heard c.args.number c.args.part c.args.bounds.now n) (Ok c.in-Ok.stable) (c.in-Ok.ensures.answers c.args.number))
+    called_same types c.args.self.now c.hear_at.new.self Any c.args.at (event.AskHear c.requires.may.0 c.args.part c.args.bounds.now) c.args.pass None (λ (n : List ℕ) (e : Event g.row.C-Effect.Denot). e ≡ event.Heard c.requires.may.0 c.args.part c.args.bounds.now n) (Ok c.in-Ok.stable) (calls_here types _ c.args.self.now c.hear_at.new.self c.self.view_is Any c.args.at (event.AskHear c.requires.may.0 c.args.part c.args.bounds.now) (λ (n : List ℕ) (e : Event g.row.C-Effect.Denot). e ≡ event.Heard c.requires.may.0 c.args.part c.args.bounds.now n) (Ok c.in-Ok.stable) (c.in-Ok.ensures.answers c.requires.may.0))
 
 pub returns-in-Err-clause-ok : goal.returns-in-Err-clause-ok
 returns-in-Err-clause-ok g c =
     let types = types_of g.C.Crdt.laws g.C.Crdt.spells g.D.Disk.state in
-    failed_on types c.args.self.now c.hear_at.new.self Any c.args.at (event.AskHear c.args.number c.args.part c.args.bounds.now) c.args.pass None (λ (n : List ℕ) (e : Event g.row.C-Effect.Denot). e ≡ event.Heard c.args.number c.args.part c.args.bounds.now n) (step.Disk c.args.at) (λ n what k. fault_of c.args.at (step.Disk c.args.at) (event.Heard c.args.number c.args.part c.args.bounds.now n) refl refl what k) c.in-Err.error c.failed.result (calls_here types _ c.args.self.now c.hear_at.new.self c.self.view_is Any c.args.at (event.AskHear c.args.number c.args.part c.args.bounds.now) (λ (n : List ℕ) (e : Event g.row.C-Effect.Denot). e ≡ event.Heard c.args.number c.args.part c.args.bounds.now n) (Err c.in-Err.error) (c.in-Err.ensures.answers c.args.number)) c.failed.ensures _
-    (λ line q run s a. q run s a.may tt tt)
+    if_each _ c.failed.result (λ line is own n run s a. hands_failed types c.args.self.now c.hear_at.new.self Any c.args.at (event.AskHear own c.args.part c.args.bounds.now) c.args.pass (Unit {0}) (λ (n : List ℕ) (e : Event g.row.C-Effect.Denot). e ≡ event.Heard own c.args.part c.args.bounds.now n) (step.Disk c.args.at) (λ n what k. fault_of c.args.at (step.Disk c.args.at) (event.Heard own c.args.part c.args.bounds.now n) refl refl what k) c.in-Err.error line c.args.number refl (calls_here types _ c.args.self.now c.hear_at.new.self c.self.view_is Any c.args.at (event.AskHear own c.args.part c.args.bounds.now) (λ (n : List ℕ) (e : Event g.row.C-Effect.Denot). e ≡ event.Heard own c.args.part c.args.bounds.now n) (Err c.in-Err.error) (c.in-Err.ensures.answers own)) (subst (λ r. FailedAs c.args.at (record { site = 0; part = 0; time = 0 }) c.args.number (step.Disk c.args.at) c.in-Err.error r) is c.failed.ensures) run s a.may tt)
 
 pub returns-in-Err-clause-stays : goal.returns-in-Err-clause-stays
 returns-in-Err-clause-stays g c =
     let types = types_of g.C.Crdt.laws g.C.Crdt.spells g.D.Disk.state in
-    called_same types c.args.self.now c.hear_at.new.self Any c.args.at (event.AskHear c.args.number c.args.part c.args.bounds.now) c.args.pass None (λ (n : List ℕ) (e : Event g.row.C-Effect.Denot). e ≡ event.Heard c.args.number c.args.part c.args.bounds.now n) (Err c.in-Err.error) (calls_here types _ c.args.self.now c.hear_at.new.self c.self.view_is Any c.args.at (event.AskHear c.args.number c.args.part c.args.bounds.now) (λ (n : List ℕ) (e : Event g.row.C-Effect.Denot). e ≡ event.Heard c.args.number c.args.part c.args.bounds.now n) (Err c.in-Err.error) (c.in-Err.ensures.answers c.args.number))
+    called_same types c.args.self.now c.hear_at.new.self Any c.args.at (event.AskHear c.requires.may.0 c.args.part c.args.bounds.now) c.args.pass None (λ (n : List ℕ) (e : Event g.row.C-Effect.Denot). e ≡ event.Heard c.requires.may.0 c.args.part c.args.bounds.now n) (Err c.in-Err.error) (calls_here types _ c.args.self.now c.hear_at.new.self c.self.view_is Any c.args.at (event.AskHear c.requires.may.0 c.args.part c.args.bounds.now) (λ (n : List ℕ) (e : Event g.row.C-Effect.Denot). e ≡ event.Heard c.requires.may.0 c.args.part c.args.bounds.now n) (Err c.in-Err.error) (c.in-Err.ensures.answers c.requires.may.0))
 
 pub returns-in-Err-clause-err : goal.returns-in-Err-clause-err
 returns-in-Err-clause-err g c =
     let types = types_of g.C.Crdt.laws g.C.Crdt.spells g.D.Disk.state in
-    failed_stays types c.args.self.now c.hear_at.new.self Any c.args.at (event.AskHear c.args.number c.args.part c.args.bounds.now) c.args.pass None (λ (n : List ℕ) (e : Event g.row.C-Effect.Denot). e ≡ event.Heard c.args.number c.args.part c.args.bounds.now n) (step.Disk c.args.at) c.in-Err.error c.failed.result (calls_here types _ c.args.self.now c.hear_at.new.self c.self.view_is Any c.args.at (event.AskHear c.args.number c.args.part c.args.bounds.now) (λ (n : List ℕ) (e : Event g.row.C-Effect.Denot). e ≡ event.Heard c.args.number c.args.part c.args.bounds.now n) (Err c.in-Err.error) (c.in-Err.ensures.answers c.args.number)) c.failed.ensures
+    failed_keeps types c.args.self.now c.hear_at.new.self Any c.args.at (event.AskHear c.requires.may.0 c.args.part c.args.bounds.now) c.args.pass (λ (n : List ℕ) (e : Event g.row.C-Effect.Denot). e ≡ event.Heard c.requires.may.0 c.args.part c.args.bounds.now n) (step.Disk c.args.at) c.in-Err.error c.failed.result (calls_here types _ c.args.self.now c.hear_at.new.self c.self.view_is Any c.args.at (event.AskHear c.requires.may.0 c.args.part c.args.bounds.now) (λ (n : List ℕ) (e : Event g.row.C-Effect.Denot). e ≡ event.Heard c.requires.may.0 c.args.part c.args.bounds.now n) (Err c.in-Err.error) (c.in-Err.ensures.answers c.requires.may.0)) c.args.number c.failed.ensures
 
 pub returns-in-Err-clause-tells : goal.returns-in-Err-clause-tells
 returns-in-Err-clause-tells g c =
     let types = types_of g.C.Crdt.laws g.C.Crdt.spells g.D.Disk.state in
-    failed_tells_call types c.args.self.now c.hear_at.new.self Any c.args.at (event.AskHear c.args.number c.args.part c.args.bounds.now) c.args.pass None (λ (n : List ℕ) (e : Event g.row.C-Effect.Denot). e ≡ event.Heard c.args.number c.args.part c.args.bounds.now n) (step.Disk c.args.at) (λ n what k. fault_of c.args.at (step.Disk c.args.at) (event.Heard c.args.number c.args.part c.args.bounds.now n) refl refl what k) (λ r. (refl, r)) c.in-Err.error c.failed.result (calls_here types _ c.args.self.now c.hear_at.new.self c.self.view_is Any c.args.at (event.AskHear c.args.number c.args.part c.args.bounds.now) (λ (n : List ℕ) (e : Event g.row.C-Effect.Denot). e ≡ event.Heard c.args.number c.args.part c.args.bounds.now n) (Err c.in-Err.error) (c.in-Err.ensures.answers c.args.number)) c.failed.ensures _
-    (λ line q. q c.requires.may.run (c.requires.may.seen, c.requires.may.allowed.may, tt))
+    if_each _ c.failed.result (λ line is.
+    let x = failed_own (Unit {0}) c.args.at (record { site = 0; part = 0; time = 0 }) 0 c.args.number (step.Disk c.args.at) refl c.in-Err.error line (subst (λ r. FailedAs c.args.at (record { site = 0; part = 0; time = 0 }) c.args.number (step.Disk c.args.at) c.in-Err.error r) is c.failed.ensures) in
+    (x.0, x.2, line_tells_call types c.args.self.now c.hear_at.new.self Any c.args.at (event.AskHear c.requires.may.0 c.args.part c.args.bounds.now) c.args.pass None (Unit {0}) (λ (n : List ℕ) (e : Event g.row.C-Effect.Denot). e ≡ event.Heard c.requires.may.0 c.args.part c.args.bounds.now n) (step.Disk c.args.at) (λ n what k. fault_of c.args.at (step.Disk c.args.at) (event.Heard c.requires.may.0 c.args.part c.args.bounds.now n) refl refl what k) (λ r. (refl, r)) c.in-Err.error x.0 (calls_here types _ c.args.self.now c.hear_at.new.self c.self.view_is Any c.args.at (event.AskHear c.requires.may.0 c.args.part c.args.bounds.now) (λ (n : List ℕ) (e : Event g.row.C-Effect.Denot). e ≡ event.Heard c.requires.may.0 c.args.part c.args.bounds.now n) (Err c.in-Err.error) (c.in-Err.ensures.answers c.requires.may.0)) x.1 c.requires.may.2.run (c.requires.may.2.seen, c.requires.may.2.allowed.may, tt)))
 
 pub returns-in-Ok-clause-tells : goal.returns-in-Ok-clause-tells
 returns-in-Ok-clause-tells g c =
     let types = types_of g.C.Crdt.laws g.C.Crdt.spells g.D.Disk.state in
-    exact_tells types c.args.self.now c.hear_at.new.self Any c.args.at (event.AskHear c.args.number c.args.part c.args.bounds.now) c.args.pass None (event.Heard c.args.number c.args.part c.args.bounds.now c.in-Ok.stable) (calls_here types _ c.args.self.now c.hear_at.new.self c.self.view_is Any c.args.at (event.AskHear c.args.number c.args.part c.args.bounds.now) (λ (n : List ℕ) (e : Event g.row.C-Effect.Denot). e ≡ event.Heard c.args.number c.args.part c.args.bounds.now n) (Ok c.in-Ok.stable) (c.in-Ok.ensures.answers c.args.number)) (step.Heard c.args.number c.args.at c.in-Ok.stable) c.requires.may.run (refl) tt (c.requires.may.seen, c.requires.may.allowed.may, tt)
+    ((step.Heard c.requires.may.0 c.args.at c.in-Ok.stable), refl, exact_tells types c.args.self.now c.hear_at.new.self Any c.args.at (event.AskHear c.requires.may.0 c.args.part c.args.bounds.now) c.args.pass None (event.Heard c.requires.may.0 c.args.part c.args.bounds.now c.in-Ok.stable) (calls_here types _ c.args.self.now c.hear_at.new.self c.self.view_is Any c.args.at (event.AskHear c.requires.may.0 c.args.part c.args.bounds.now) (λ (n : List ℕ) (e : Event g.row.C-Effect.Denot). e ≡ event.Heard c.requires.may.0 c.args.part c.args.bounds.now n) (Ok c.in-Ok.stable) (c.in-Ok.ensures.answers c.requires.may.0)) (step.Heard c.requires.may.0 c.args.at c.in-Ok.stable) c.requires.may.2.run (refl) tt (c.requires.may.2.seen, c.requires.may.2.allowed.may, tt))

@@ -18,7 +18,7 @@ returns-in-Ok-clause-ok g c =
     let types = types_of g.C.Crdt.laws g.C.Crdt.spells g.D.Disk.state in
     let k = (calls_here types _ c.args.self.now c.release_at.new.self c.self.view_is Any c.args.at (event.AskMessage c.args.to c.args.from) (λ (m : Message g.row.C-Effect.Denot) (e : Event g.row.C-Effect.Denot). (m.to ≡ c.args.to) × (e ≡ event.Sent c.args.from m)) (Ok c.in-Ok.message) c.in-Ok.ensures.answers) in (
       fact_of types c.args.self.now c.release_at.new.self Any c.args.at (event.AskMessage c.args.to c.args.from) c.args.pass None (c.in-Ok.message.to ≡ c.args.to) (λ (e : Event g.row.C-Effect.Denot). (c.in-Ok.message.to ≡ c.args.to) × (e ≡ event.Sent c.args.from c.in-Ok.message)) (λ e x. x.0) k c.requires.may (λ calls. tt),
-      λ run s. did_on types c.args.self.now c.release_at.new.self Any c.args.at (event.AskMessage c.args.to c.args.from) c.args.pass None (event.Sent c.args.from c.in-Ok.message) refl (exactly types c.args.self.now c.release_at.new.self Any c.args.at (event.AskMessage c.args.to c.args.from) c.args.pass None (λ (e : Event g.row.C-Effect.Denot). (c.in-Ok.message.to ≡ c.args.to) × (e ≡ event.Sent c.args.from c.in-Ok.message)) (event.Sent c.args.from c.in-Ok.message) (λ e x. x.1) k) run s tt tt,
+      λ run s. did_on types c.args.self.now c.release_at.new.self Any c.args.at (event.AskMessage c.args.to c.args.from) c.args.pass None event.sent_count 0 (event.Sent c.args.from c.in-Ok.message) refl (exactly types c.args.self.now c.release_at.new.self Any c.args.at (event.AskMessage c.args.to c.args.from) c.args.pass None (λ (e : Event g.row.C-Effect.Denot). (c.in-Ok.message.to ≡ c.args.to) × (e ≡ event.Sent c.args.from c.in-Ok.message)) (event.Sent c.args.from c.in-Ok.message) (λ e x. x.1) k) run s tt tt,
     )
 
 pub returns-in-Ok-clause-stays : goal.returns-in-Ok-clause-stays

@@ -15,7 +15,7 @@ report_at-requires g c = place_here (types_of g.C.Crdt.laws g.C.Crdt.spells g.D.
 pub returns-in-Ok-clause-ok : goal.returns-in-Ok-clause-ok
 returns-in-Ok-clause-ok g c run s =
     let types = types_of g.C.Crdt.laws g.C.Crdt.spells g.D.Disk.state in
-    did_on types c.args.self.now c.args.self.now Any c.args.at event.AskReport c.args.pass None (event.Reported c.in-Ok.bounds) refl (calls_still types _ c.args.self.now c.self.view_is Any c.args.at event.AskReport (λ (b : List ℕ) (e : Event g.row.C-Effect.Denot). e ≡ event.Reported b) (Ok c.in-Ok.bounds) c.in-Ok.ensures.answers) run s tt tt
+    did_on types c.args.self.now c.args.self.now Any c.args.at event.AskReport c.args.pass None event.report_count 0 (event.Reported c.in-Ok.bounds) refl (calls_still types _ c.args.self.now c.self.view_is Any c.args.at event.AskReport (λ (b : List ℕ) (e : Event g.row.C-Effect.Denot). e ≡ event.Reported b) (Ok c.in-Ok.bounds) c.in-Ok.ensures.answers) run s tt tt
 
 pub returns-in-Ok-clause-stays : goal.returns-in-Ok-clause-stays
 returns-in-Ok-clause-stays g c =

@@ -5,11 +5,11 @@ use Rattle.partition_core.specs.Steps.{Anything}
 use Rattle.site_partitions.specs.Answers.{Any}
 use Rattle.site_partitions.specs.Reaches.{types_of, PutsEvent}
 use Rattle.site_partitions.proofs.Going.{IsShown, asked}
-use Rattle.site_partitions.proofs.Asking.{begin_width}
+use Rattle.site_partitions.proofs.Asking.{askable, begin_width}
 use Rattle.site_partitions.proofs.sites.Sites.begin_at.Goals as goal
 
 pub begin-requires : goal.begin-requires
-begin-requires g c = begin_width _ _ _ _ _ c.self.view_is c.args.at _ c.index_of-i.ensures.index _ c.index_mut.ensures.value c.requires.0 (wish_of c.args.dependency.now c.args.mode) c.requires.1
+begin-requires g c = begin_width _ _ _ _ _ c.requires.0 (wish_of c.args.dependency.now c.args.mode) (askable _ _ _ _ _ c.self.view_is c.args.at _ c.index_of-i.ensures.index _ c.index_mut.ensures.value c.self.invariant _ c.requires.1)
 
 pub returns-clause-answers : goal.returns-clause-answers
 returns-clause-answers g c =

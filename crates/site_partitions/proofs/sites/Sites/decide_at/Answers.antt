@@ -4,17 +4,17 @@ use Rattle.partition_core.specs.Steps.{Anything}
 use Rattle.site_partitions.specs.Answers.{Any}
 use Rattle.site_partitions.specs.Reaches.{types_of, PutsEvent}
 use Rattle.site_partitions.proofs.Going.{IsShown, asked}
-use Rattle.site_partitions.proofs.Asking.{decide_is_tx, decide_site, decide_width}
+use Rattle.site_partitions.proofs.Asking.{askable, decide_is_tx, decide_site, decide_width}
 use Rattle.site_partitions.proofs.sites.Sites.decide_at.Goals as goal
 
 pub decide-requires-clause-place : goal.decide-requires-clause-place
-decide-requires-clause-place g c = decide_site _ _ _ _ _ c.self.view_is c.args.at _ c.index_of-i.ensures.index _ c.index_mut.ensures.value c.args.tx c.args.c.now c.requires
+decide-requires-clause-place g c = decide_site _ _ _ _ _ c.args.tx c.args.c.now (askable _ _ _ _ _ c.self.view_is c.args.at _ c.index_of-i.ensures.index _ c.index_mut.ensures.value c.self.invariant _ c.requires)
 
 pub decide-requires-clause-width : goal.decide-requires-clause-width
-decide-requires-clause-width g c = decide_width _ _ _ _ _ c.self.view_is c.args.at _ c.index_of-i.ensures.index _ c.index_mut.ensures.value c.args.tx c.args.c.now c.requires
+decide-requires-clause-width g c = decide_width _ _ _ _ _ c.args.tx c.args.c.now (askable _ _ _ _ _ c.self.view_is c.args.at _ c.index_of-i.ensures.index _ c.index_mut.ensures.value c.self.invariant _ c.requires)
 
 pub decide-requires-clause-spelled : goal.decide-requires-clause-spelled
-decide-requires-clause-spelled g c = decide_is_tx _ _ _ _ _ c.self.view_is c.self.invariant c.args.tx c.args.at c.args.c.now c.requires
+decide-requires-clause-spelled g c = decide_is_tx _ _ _ _ _ c.args.tx c.args.c.now (askable _ _ _ _ _ c.self.view_is c.args.at _ c.index_of-i.ensures.index _ c.index_mut.ensures.value c.self.invariant _ c.requires)
 
 pub returns-clause-answers : goal.returns-clause-answers
 returns-clause-answers g c =

@@ -4,17 +4,17 @@ use Rattle.partition_core.specs.Steps.{Anything}
 use Rattle.site_partitions.specs.Answers.{Any}
 use Rattle.site_partitions.specs.Reaches.{types_of, PutsEvent}
 use Rattle.site_partitions.proofs.Going.{IsShown, asked}
-use Rattle.site_partitions.proofs.Asking.{finish_is_tx, finish_site, finish_width}
+use Rattle.site_partitions.proofs.Asking.{askable, finish_is_tx, finish_site, finish_width}
 use Rattle.site_partitions.proofs.sites.Sites.finish_at.Goals as goal
 
 pub finish-requires-clause-place : goal.finish-requires-clause-place
-finish-requires-clause-place g c = finish_site _ _ _ _ _ c.self.view_is c.args.at _ c.index_of-i.ensures.index _ c.index_mut.ensures.value c.args.tx c.args.c.now c.requires
+finish-requires-clause-place g c = finish_site _ _ _ _ _ c.args.tx c.args.c.now (askable _ _ _ _ _ c.self.view_is c.args.at _ c.index_of-i.ensures.index _ c.index_mut.ensures.value c.self.invariant _ c.requires)
 
 pub finish-requires-clause-width : goal.finish-requires-clause-width
-finish-requires-clause-width g c = finish_width _ _ _ _ _ c.self.view_is c.args.at _ c.index_of-i.ensures.index _ c.index_mut.ensures.value c.args.tx c.args.c.now c.requires
+finish-requires-clause-width g c = finish_width _ _ _ _ _ c.args.tx c.args.c.now (askable _ _ _ _ _ c.self.view_is c.args.at _ c.index_of-i.ensures.index _ c.index_mut.ensures.value c.self.invariant _ c.requires)
 
 pub finish-requires-clause-spelled : goal.finish-requires-clause-spelled
-finish-requires-clause-spelled g c = finish_is_tx _ _ _ _ _ c.self.view_is c.self.invariant c.args.tx c.args.at c.args.c.now c.requires
+finish-requires-clause-spelled g c = finish_is_tx _ _ _ _ _ c.args.tx c.args.c.now (askable _ _ _ _ _ c.self.view_is c.args.at _ c.index_of-i.ensures.index _ c.index_mut.ensures.value c.self.invariant _ c.requires)
 
 pub returns-clause-answers : goal.returns-clause-answers
 returns-clause-answers g c =

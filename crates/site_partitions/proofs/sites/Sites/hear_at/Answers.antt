@@ -4,17 +4,17 @@ use Rattle.partition_core.specs.Steps.{Anything}
 use Rattle.site_partitions.specs.Answers.{Any}
 use Rattle.site_partitions.specs.Reaches.{types_of, PutsEvent}
 use Rattle.site_partitions.proofs.Going.{IsShown, asked}
-use Rattle.site_partitions.proofs.Asking.{hear_most, hear_width}
+use Rattle.site_partitions.proofs.Asking.{askable, hear_most, hear_width}
 use Rattle.site_partitions.proofs.sites.Sites.hear_at.Goals as goal
 
 pub hear-requires-clause-least : goal.hear-requires-clause-least
 hear-requires-clause-least g c = c.requires.1.allowed.least
 
 pub hear-requires-clause-most : goal.hear-requires-clause-most
-hear-requires-clause-most g c = hear_most _ _ _ _ _ c.self.view_is c.args.at _ c.index_of-i.ensures.index _ c.index_mut.ensures.value c.requires.0 c.args.part c.args.bounds.now c.requires.1
+hear-requires-clause-most g c = hear_most _ _ _ _ _ c.requires.0 c.args.part c.args.bounds.now (askable _ _ _ _ _ c.self.view_is c.args.at _ c.index_of-i.ensures.index _ c.index_mut.ensures.value c.self.invariant _ c.requires.1)
 
 pub hear-requires-clause-width : goal.hear-requires-clause-width
-hear-requires-clause-width g c = hear_width _ _ _ _ _ c.self.view_is c.args.at _ c.index_of-i.ensures.index _ c.index_mut.ensures.value c.requires.0 c.args.part c.args.bounds.now c.requires.1
+hear-requires-clause-width g c = hear_width _ _ _ _ _ c.requires.0 c.args.part c.args.bounds.now (askable _ _ _ _ _ c.self.view_is c.args.at _ c.index_of-i.ensures.index _ c.index_mut.ensures.value c.self.invariant _ c.requires.1)
 
 pub returns-clause-answers : goal.returns-clause-answers
 returns-clause-answers g c =

@@ -4,13 +4,13 @@ use Rattle.partition_core.specs.Steps.{Anything}
 use Rattle.site_partitions.specs.Answers.{Any}
 use Rattle.site_partitions.specs.Reaches.{types_of, PutsEvent}
 use Rattle.site_partitions.proofs.Going.{IsShown, asked}
-use Rattle.site_partitions.proofs.Asking.{read_width}
+use Rattle.site_partitions.proofs.Asking.{askable, read_width}
 use Rattle.world_model.specs.rules.Event as event
 use Rattle.crdt_core.specs.declared.record.Part.{Part}
 use Rattle.site_partitions.proofs.sites.Sites.read_at.Goals as goal
 
 pub read-requires-clause-width : goal.read-requires-clause-width
-read-requires-clause-width g c = read_width _ _ _ _ _ c.self.view_is c.args.at _ c.index_of-i.ensures.index _ c.index_mut.ensures.value c.args.tx c.args.s.now c.args.object.now c.args.own.now c.requires.may
+read-requires-clause-width g c = read_width _ _ _ _ _ c.args.tx c.args.s.now c.args.object.now c.args.own.now (askable _ _ _ _ _ c.self.view_is c.args.at _ c.index_of-i.ensures.index _ c.index_mut.ensures.value c.self.invariant _ c.requires.may)
 
 pub returns-clause-answers : goal.returns-clause-answers
 returns-clause-answers g c =

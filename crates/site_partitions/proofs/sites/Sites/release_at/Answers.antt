@@ -4,12 +4,12 @@ use Rattle.partition_core.specs.Steps.{Anything}
 use Rattle.site_partitions.specs.Answers.{Any}
 use Rattle.site_partitions.specs.Reaches.{types_of, PutsEvent}
 use Rattle.site_partitions.proofs.Going.{IsShown, asked}
-use Rattle.site_partitions.proofs.Asking.{release_site}
+use Rattle.site_partitions.proofs.Asking.{askable, release_site}
 use Rattle.std.proofs.Common.{ap}
 use Rattle.site_partitions.proofs.sites.Sites.release_at.Goals as goal
 
 pub release-requires : goal.release-requires
-release-requires g c = release_site _ _ _ _ _ c.self.view_is c.args.at _ c.index_of-i.ensures.index _ c.index_mut.ensures.value c.args.to c.args.from c.requires.may c.requires.place
+release-requires g c = release_site _ _ _ _ _ c.args.to c.args.from (askable _ _ _ _ _ c.self.view_is c.args.at _ c.index_of-i.ensures.index _ c.index_mut.ensures.value c.self.invariant _ c.requires.may) c.requires.place
 
 pub returns-clause-answers : goal.returns-clause-answers
 returns-clause-answers g c =

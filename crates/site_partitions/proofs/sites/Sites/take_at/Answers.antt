@@ -4,6 +4,7 @@ use Rattle.partition_core.specs.Steps.{Anything}
 use Rattle.site_partitions.specs.Answers.{Any}
 use Rattle.site_partitions.specs.Reaches.{types_of, PutsEvent}
 use Rattle.site_partitions.proofs.Going.{IsShown, asked}
+use Rattle.site_partitions.proofs.Asking.{askable}
 use Rattle.site_partitions.proofs.Messages.{take_most, take_wide, take_apart, take_away, take_unheld, take_put}
 use Rattle.site_partitions.proofs.sites.Sites.take_at.Goals as goal
 
@@ -11,22 +12,22 @@ pub take-requires-clause-least : goal.take-requires-clause-least
 take-requires-clause-least g c = c.requires.1.allowed.from.least
 
 pub take-requires-clause-most : goal.take-requires-clause-most
-take-requires-clause-most g c = take_most _ _ _ _ _ c.self.view_is c.args.at _ c.index_of-i.ensures.index _ c.index_mut.ensures.value c.requires.0 c.args.message.now c.requires.1
+take-requires-clause-most g c = take_most _ _ _ _ _ c.requires.0 c.args.message.now (askable _ _ _ _ _ c.self.view_is c.args.at _ c.index_of-i.ensures.index _ c.index_mut.ensures.value c.self.invariant _ c.requires.1)
 
 pub take-requires-clause-wide : goal.take-requires-clause-wide
-take-requires-clause-wide g c = take_wide _ _ _ _ _ c.self.view_is c.args.at _ c.index_of-i.ensures.index _ c.index_mut.ensures.value c.requires.0 c.args.message.now c.requires.1
+take-requires-clause-wide g c = take_wide _ _ _ _ _ c.requires.0 c.args.message.now (askable _ _ _ _ _ c.self.view_is c.args.at _ c.index_of-i.ensures.index _ c.index_mut.ensures.value c.self.invariant _ c.requires.1)
 
 pub take-requires-clause-apart : goal.take-requires-clause-apart
-take-requires-clause-apart g c = take_apart _ _ _ _ _ c.self.view_is c.args.at _ c.index_of-i.ensures.index _ c.index_mut.ensures.value c.requires.0 c.args.message.now c.requires.1
+take-requires-clause-apart g c = take_apart _ _ _ _ _ c.requires.0 c.args.message.now (askable _ _ _ _ _ c.self.view_is c.args.at _ c.index_of-i.ensures.index _ c.index_mut.ensures.value c.self.invariant _ c.requires.1)
 
 pub take-requires-clause-away : goal.take-requires-clause-away
-take-requires-clause-away g c = take_away _ _ _ _ _ c.self.view_is c.args.at _ c.index_of-i.ensures.index _ c.index_mut.ensures.value c.requires.0 c.args.message.now c.requires.1
+take-requires-clause-away g c = take_away _ _ _ _ _ c.requires.0 c.args.message.now (askable _ _ _ _ _ c.self.view_is c.args.at _ c.index_of-i.ensures.index _ c.index_mut.ensures.value c.self.invariant _ c.requires.1)
 
 pub take-requires-clause-not_held : goal.take-requires-clause-not_held
-take-requires-clause-not_held g c = take_unheld _ _ _ _ _ c.self.view_is c.args.at _ c.index_of-i.ensures.index _ c.index_mut.ensures.value c.requires.0 c.args.message.now c.requires.1
+take-requires-clause-not_held g c = take_unheld _ _ _ _ _ c.requires.0 c.args.message.now (askable _ _ _ _ _ c.self.view_is c.args.at _ c.index_of-i.ensures.index _ c.index_mut.ensures.value c.self.invariant _ c.requires.1)
 
 pub take-requires-clause-spelled : goal.take-requires-clause-spelled
-take-requires-clause-spelled g c = take_put _ _ _ _ _ c.self.view_is c.self.invariant c.args.at c.requires.0 c.args.message.now c.requires.1
+take-requires-clause-spelled g c = take_put _ _ _ _ _ c.requires.0 c.args.message.now (askable _ _ _ _ _ c.self.view_is c.args.at _ c.index_of-i.ensures.index _ c.index_mut.ensures.value c.self.invariant _ c.requires.1)
 
 pub returns : goal.returns
 returns g c =
