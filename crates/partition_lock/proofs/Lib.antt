@@ -1,0 +1,6 @@
+mod Telling
+mod States
+mod Owners
+mod Joined
+mod Stepping
+pub mod Agreeing
