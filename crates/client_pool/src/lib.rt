@@ -4,6 +4,7 @@
 mod gate;
 mod laws;
 mod load;
+mod outcome;
 mod plan;
 mod summary;
 
@@ -13,5 +14,6 @@ pub use load::{
     addition, clients, counter, counter_of, decrement, first_part, increment, next_counter,
     session_name, site_of,
 };
+pub use outcome::{Outcome, outcome_of};
 pub use plan::Plan;
 pub use summary::{SiteSum, Summary};
