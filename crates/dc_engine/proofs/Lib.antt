@@ -1,2 +1,3 @@
+pub mod OneReply
 pub mod bytes
 pub mod commands

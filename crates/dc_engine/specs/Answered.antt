@@ -11,15 +11,17 @@ use Rattle.cluster.specs.History.{ShowsHistory}
 use Rattle.dc_engine.specs.declared.framing.Framing.{Framing}
 use Rattle.dc_engine.specs.GivenBack.{GivenBack}
 use Rattle.dc_engine.specs.ObjectKinds.{kinds}
+use Rattle.dc_engine.specs.Only.{IsOnly}
 use Rattle.dc_engine.specs.Reading.{asked_of}
 
 -- these bytes are the lines of one run that answers these lines of a script, the first first. Each refusal in it that comes before
 -- a partition is asked is due, and what partitions answered is one lawful history, by a run of the world of all sites and partitions.
--- `spelled` says how a reply is written, by the number of the script's line
+-- No other such run has disks that tell the same. `spelled` says how a reply is written, by the number of the script's line
 pub record Answered (f : Framing) (spelled : ℕ → Step → List ℕ) (lines : List (List ℕ)) (bytes : List ℕ) : Type 0 where
   pub run : Run
   pub answers : Answers is_built (reverse (map (asked_of f) lines)) run
   pub history : ShowsHistory kinds run
+  pub only : IsOnly f lines run
   pub written : bytes ≡ written_lines spelled run
 
 -- and no cluster stands then

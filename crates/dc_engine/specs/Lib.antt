@@ -10,6 +10,8 @@ pub mod Held
 pub mod Lines
 pub mod Makers
 pub mod Memory
+pub mod OneReply
+pub mod Only
 pub mod ObjectKinds
 pub mod Played
 pub mod Player

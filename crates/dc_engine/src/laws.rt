@@ -2,6 +2,7 @@
 ghost use Rattle.std.specs.Prelude.{◌≡◌, ℕ, ◌+◌, ◌*◌, ◌<◌, List, [], ◌∷◌, ◌++◌, length, map, None};
 ghost use Rattle.dc_engine.specs.Lines.{lines_of, ended_lines};
 ghost use Rattle.dc_engine.specs.Bodies.{bodies, left};
+ghost use Rattle.dc_engine.specs.OneReply.{LawOneReply, LawOneCalmReply};
 ghost use Rattle.frame_session.specs.Frames.{frames_of, rest_of};
 ghost use Rattle.dc_engine.specs.Status.{code_of, text_of};
 ghost use Rattle.dc_engine.specs.declared.status.Status.TheVariants as status;
@@ -22,6 +23,14 @@ pub fn law_frames()
 pub fn law_bodies()
     ensures bodies { (bytes : List ℕ) → bodies (ended_lines Frames bytes) ≡ frames_of bytes }
     ensures rest { (bytes : List ℕ) → lines_of Frames bytes ≡ ended_lines Frames bytes ++ left (rest_of bytes) }
+{}
+
+/// One script, one reply: two programs that keep the clause of `play` write the same bytes in reply to the same lines,
+/// where disks tell the same in both, and so where no line of either tells of a disk. The function does nothing: its
+/// contract is the law.
+pub fn law_one_reply()
+    ensures reply { LawOneReply }
+    ensures calm { LawOneCalmReply }
 {}
 
 /// The process ends with 0 where all was answered, 1 where a line was outside the grammar, 2 where the words are no call,

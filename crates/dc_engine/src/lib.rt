@@ -16,7 +16,7 @@ mod words;
 
 pub use format::Format;
 pub use framing::Framing;
-pub use laws::{law_bodies, law_frames, law_statuses};
+pub use laws::{law_bodies, law_frames, law_one_reply, law_statuses};
 pub use status::Status;
 pub use streams::edge::{ReaderSource, WriterSink};
 pub use streams::memory::{Calls, SliceSource, VecSink};

@@ -26,6 +26,7 @@ use Rattle.cluster.specs.Post.{WholeState}
 use Rattle.site_partitions.specs.Reaches.{Types}
 use Rattle.cluster.proofs.Laws.{history, log_left, none_made, rooms_left}
 use Rattle.dc_engine.specs.declared.framing.Framing.{Framing}
+use Rattle.dc_engine.proofs.OneReply.{is_only}
 use Rattle.dc_engine.specs.Answered.{Answered, AnsweredWhole}
 use Rattle.dc_engine.specs.GivenBack.{HoldsLogOf, GivenBack, IsRoomIn}
 use Rattle.dc_engine.specs.Held.{Standing, IsLeft, Reached, HasOutOf}
@@ -151,7 +152,7 @@ module _ {D : Type 0} (state : D → DiskState) where
       }
 
   abbrev pub reached_answered : (f : Framing) (spelled : ℕ → Step → List ℕ) (c : Standing D) (lines : List (List ℕ)) (bytes : List ℕ) → Reached state f spelled c lines bytes → Answered f spelled lines bytes
-  reached_answered f spelled c lines bytes r = record { run = r.run; answers = r.answers; history = history (types (fused_state state)) c r.run r.left; written = r.written }
+  reached_answered f spelled c lines bytes r = record { run = r.run; answers = r.answers; history = history (types (fused_state state)) c r.run r.left; only = is_only f lines r.run r.answers (history (types (fused_state state)) c r.run r.left); written = r.written }
 
   pub reached_whole : (f : Framing) (spelled : ℕ → Step → List ℕ) (c : Standing D) (start mid end : Maker D) → IsUnchanged start mid → ReturnsAll c mid end → (lines : List (List ℕ)) (bytes : List ℕ) → Reached state f spelled c lines bytes → AnsweredWhole f spelled state start end lines bytes
   reached_whole f spelled c start mid end begun back lines bytes r = record {
