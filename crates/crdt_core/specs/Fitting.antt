@@ -45,18 +45,22 @@ module _ {E : Type 0} where
       not (m.from == id.site) && (leb 1 m.from && (leb m.from sites && (m.to == id.site && (m.part == id.part && (leb m.lo end_of_time && (leb m.hi end_of_time
       && (list_all (fits_part sites parts m) m.parts && are_apart m.parts)))))))
 
-  -- a record fits a partition after the log that it has
-  abbrev pub fits_record : ℕ → ℕ → PartId → List (Record E) → Record E → Bool
-  fits_record sites parts id log (Lease n) = leb n end_of_time
-  fits_record sites parts id log (Prepare t l n s w) =
+  -- a record fits a partition after the log that it has, where the last lease of the whole log has this ceiling
+  abbrev pub fits_record : ℕ → ℕ → PartId → ℕ → List (Record E) → Record E → Bool
+  fits_record sites parts id top log (Lease n) = leb n end_of_time
+  fits_record sites parts id top log (Prepare t l n s w) =
       t.site == id.site && (leb 1 t.part && (leb t.part parts && (not (is_named_in log t) && (leb 1 l && (leb l id.part
-      && (is_vector sites s && (are_placed_at parts id.part w && (ltb (entry s id.site) n && leb n (ceiling log)))))))))
-  fits_record sites parts id log (Decide t c) = pending log t && (prepared_lead log t == id.part && fits_commit sites id log t c)
-  fits_record sites parts id log (Finish t c) = pending log t && (not (prepared_lead log t == id.part) && fits_commit sites id log t c)
-  fits_record sites parts id log (Abort t) = pending log t
-  fits_record sites parts id log (Batch m) = fits_message sites parts id m && (leb (logged_bound log m.from) m.lo && list_all (λ x. not (is_named_in log x.tx)) m.parts)
+      && (is_vector sites s && (are_placed_at parts id.part w && (ltb (entry s id.site) n && leb n top))))))))
+  fits_record sites parts id top log (Decide t c) = pending log t && (prepared_lead log t == id.part && fits_commit sites id log t c)
+  fits_record sites parts id top log (Finish t c) = pending log t && (not (prepared_lead log t == id.part) && fits_commit sites id log t c)
+  fits_record sites parts id top log (Abort t) = pending log t
+  fits_record sites parts id top log (Batch m) = fits_message sites parts id m && (leb (logged_bound log m.from) m.lo && list_all (λ x. not (is_named_in log x.tx)) m.parts)
 
-  -- the number of the first record that doesn't fit, from 0, the oldest; none where all fit
+  -- the number of the first record that doesn't fit under this ceiling, from 0, the oldest; none where all fit
+  abbrev pub unfit_under : ℕ → ℕ → PartId → ℕ → List (Record E) → Option ℕ
+  unfit_under sites parts id top [] = None
+  unfit_under sites parts id top (r ∷ log) = unfit_next (unfit_under sites parts id top log) (fits_record sites parts id top log r) (length log)
+
+  -- the same under the log's own ceiling, which its last lease tells: earlier ones may be gone
   abbrev pub unfit : ℕ → ℕ → PartId → List (Record E) → Option ℕ
-  unfit sites parts id [] = None
-  unfit sites parts id (r ∷ log) = unfit_next (unfit sites parts id log) (fits_record sites parts id log r) (length log)
+  unfit sites parts id log = unfit_under sites parts id (ceiling log) log

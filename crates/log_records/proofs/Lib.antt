@@ -1,3 +1,4 @@
 pub mod Wholes
 pub mod Joins
 pub mod Streams
+pub mod Leases

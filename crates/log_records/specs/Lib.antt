@@ -5,3 +5,4 @@ pub mod Heads
 pub mod Messages
 pub mod Records
 pub mod Whole
+pub mod Leases

@@ -4,6 +4,7 @@
 mod error;
 mod head;
 mod laws;
+mod lease;
 mod message_form;
 mod part_form;
 mod record;
@@ -13,6 +14,7 @@ mod update_form;
 
 pub use error::RecordError;
 pub use laws::{law_messages, law_records};
+pub use lease::lease_of;
 pub use message_form::{put_message, take_message};
 pub use record::{put, put_batch, take};
 pub use short::Short;

@@ -1,5 +1,5 @@
 -- What a condensed log tells is what the whole log tells, and so it stays as both grow.
-use Rattle.std.proofs.Common.{◌≡◌, ◌≢◌, ⊎_elim, ℕ, max, Bool, true, false, not, ◌&&◌, ◌||◌, List, [], ◌∷◌, Option, None, Some, refl, sym, ap, ◌∙◌, subst}
+use Rattle.std.proofs.Common.{◌≡◌, ⊎_elim, ℕ, max, Bool, true, false, not, ◌&&◌, ◌||◌, List, [], ◌∷◌, Option, None, Some, refl, sym, ap, ◌∙◌, subst}
 use Rattle.std.specs.Prelude.{◌==◌, if◌then◌else◌}
 use Rattle.std.proofs.lemmas.Bool.{true≢false, cases_Bool, and_parts, or_parts, or_right, or_from, not-true, false_from_ne_true}
 use Rattle.site_vector.specs.declared.ids.PartId.{PartId}
@@ -9,7 +9,7 @@ use Rattle.site_vector.specs.Order.{same_tx_is}
 use Rattle.crdt_core.specs.declared.record.Upd.{Upd}
 use Rattle.crdt_core.specs.declared.record.Record.{Record}
 use Rattle.crdt_core.specs.declared.record.Record.TheVariants.{Lease, Prepare, Decide, Finish, Abort, Batch}
-use Rattle.crdt_core.specs.Fitting.{unfit}
+use Rattle.crdt_core.specs.Fitting.{unfit, unfit_under}
 use Rattle.crdt_core.specs.Log.{ceiling, prepared, prepare_time, prepared_changes, prepared_lead, prepared_snapshot, committed, committed_at, aborted, pending, last_decided, taken, taken_at, taken_changes, logged_bound, holds, names_tx, grown}
 use Rattle.crdt_core.specs.Parts.{lists, vector_in, changes_in}
 use Rattle.log_recovery.specs.Condensed.{is_dropped, kept, condensed, NamesNone, told_vote, told_part}
@@ -37,18 +37,18 @@ pub record Whole : Type 0 where
   pub decision : Option TxId
 
 -- one that passes a test isn't one that doesn't
-apart : (d : TxId → Bool) (t u : TxId) → d t ≡ true → d u ≡ false → same_tx t u ≡ false
+pub apart : (d : TxId → Bool) (t u : TxId) → d t ≡ true → d u ≡ false → same_tx t u ≡ false
 apart d t u yes_t no_u = false_from_ne_true _ (λ (h : same_tx t u ≡ true). true≢false (sym yes_t ∙ ap d (same_tx_is t u h) ∙ no_u))
 
 other : (d : TxId → Bool) (t u : TxId) → d t ≡ false → d u ≡ true → same_tx t u ≡ false
 other d t u no_t yes_u = false_from_ne_true _ (λ (h : same_tx t u ≡ true). true≢false (sym yes_u ∙ ap d (sym (same_tx_is t u h)) ∙ no_t))
 
-by_test : {A : Type 0} (b : Bool) (P : A → Type 0) (x y : A) → (b ≡ true → P x) → (b ≡ false → P y) → P (if b then x else y)
+pub by_test : {A : Type 0} (b : Bool) (P : A → Type 0) (x y : A) → (b ≡ true → P x) → (b ≡ false → P y) → P (if b then x else y)
 by_test true P x y yes_x no_y = yes_x refl
 by_test false P x y yes_x no_y = no_y refl
 
 module _ {E : Type 0} where
-  abbrev facts : List (Record E) → TxId → Facts E
+  abbrev pub facts : List (Record E) → TxId → Facts E
   facts log u = record {
     is_prepared = prepared log u;
     time = prepare_time log u;
@@ -76,7 +76,7 @@ module _ {E : Type 0} where
   abbrev with_batch : Bool → List ℕ → List (Upd E) → Facts E → Facts E
   with_batch b c w f = record f { is_taken = b || f.is_taken; at_taken = if b then c else f.at_taken; brought = if b then w else f.brought }
 
-  one_more : (r : Record E) (a b : List (Record E)) (u : TxId) → facts b u ≡ facts a u → facts (r ∷ b) u ≡ facts (r ∷ a) u
+  pub one_more : (r : Record E) (a b : List (Record E)) (u : TxId) → facts b u ≡ facts a u → facts (r ∷ b) u ≡ facts (r ∷ a) u
   one_more (Lease n) a b u h = h
   one_more (Prepare t l n s w) a b u h = ap (with_prepare (same_tx t u) l n s w) h
   one_more (Decide t c) a b u h = ap (with_commit (same_tx t u) c) h
@@ -85,7 +85,7 @@ module _ {E : Type 0} where
   one_more (Batch m) a b u h = ap (with_batch (lists m.parts u) (vector_in m.parts u) (changes_in m.parts u)) h
 
   -- of who isn't dropped all is told as before
-  kept_facts : (leased : Bool) (d : TxId → Bool) (log : List (Record E)) (u : TxId) → d u ≡ false → facts (kept leased d log) u ≡ facts log u
+  pub kept_facts : (leased : Bool) (d : TxId → Bool) (log : List (Record E)) (u : TxId) → d u ≡ false → facts (kept leased d log) u ≡ facts log u
   kept_facts leased d [] u not_u = refl
   kept_facts true d (Lease n ∷ log) u not_u = kept_facts true d log u not_u
   kept_facts false d (Lease n ∷ log) u not_u = kept_facts true d log u not_u
@@ -120,10 +120,10 @@ module _ {E : Type 0} where
       by_test (d t) (λ (k : List (Record E)). prepared k u ≡ false) (kept leased d log) (Abort t ∷ kept leased d log) (λ e. older) (λ e. older)
   kept_unprepared leased d (Batch m ∷ log) u is_u = kept_unprepared leased d log u is_u
 
-  abbrev whole : List (Record E) → Whole
+  abbrev pub whole : List (Record E) → Whole
   whole log = record { ended = committed log; brings = taken log; bounds = logged_bound log; decision = last_decided log }
 
-  kept_whole : (leased : Bool) (d : TxId → Bool) (log : List (Record E)) → whole (kept leased d log) ≡ whole log
+  pub kept_whole : (leased : Bool) (d : TxId → Bool) (log : List (Record E)) → whole (kept leased d log) ≡ whole log
   kept_whole leased d [] = refl
   kept_whole true d (Lease n ∷ log) = kept_whole true d log
   kept_whole false d (Lease n ∷ log) = kept_whole true d log
@@ -139,7 +139,7 @@ module _ {E : Type 0} where
       ap (λ (x : Whole). record x { brings = λ u. lists m.parts u || x.brings u; bounds = λ j. if m.from == j then max m.hi (x.bounds j) else x.bounds j }) (kept_whole leased d log)
 
   -- the last lease stays
-  kept_ceiling : (d : TxId → Bool) (log : List (Record E)) → ceiling (kept false d log) ≡ ceiling log
+  pub kept_ceiling : (d : TxId → Bool) (log : List (Record E)) → ceiling (kept false d log) ≡ ceiling log
   kept_ceiling d [] = refl
   kept_ceiling d (Lease n ∷ log) = refl
   kept_ceiling d (Prepare t l n s w ∷ log) =
@@ -189,7 +189,7 @@ module _ {E : Type 0} where
   decision_alike (Abort t) a b h = h
   decision_alike (Batch m) a b h = h
 
-  bound_alike : (r : Record E) (a b : List (Record E)) (j : ℕ) → logged_bound b j ≡ logged_bound a j → logged_bound (r ∷ b) j ≡ logged_bound (r ∷ a) j
+  pub bound_alike : (r : Record E) (a b : List (Record E)) (j : ℕ) → logged_bound b j ≡ logged_bound a j → logged_bound (r ∷ b) j ≡ logged_bound (r ∷ a) j
   bound_alike (Lease n) a b j h = h
   bound_alike (Prepare t l n s w) a b j h = h
   bound_alike (Decide t c) a b j h = h
@@ -217,38 +217,39 @@ module _ {E : Type 0} where
       let none = or_parts (committed log t) (aborted log t) (not-true (committed log t || aborted log t) both.1) in
       (both.0, none.0, none.1)
 
-module _ {E : Type 0} (sites parts : ℕ) (id : PartId) where
+module _ {E : Type 0} (sites parts : ℕ) (id : PartId) (top : ℕ) where
   -- an end is of another, where this one was aborted
   not_again : (log : List (Record E)) (t u : TxId) → pending log t ≡ true → aborted log u ≡ true → same_tx t u ≡ false
   not_again log t u waits gone = other (aborted log) t u (waiting log t waits).2 gone
 
   -- in a log that fits, what was aborted was prepared, and wasn't committed
-  aborted_only : (log : List (Record E)) → unfit sites parts id log ≡ None → (u : TxId) → aborted log u ≡ true → (prepared log u ≡ true) × (committed log u ≡ false)
+  pub aborted_only : (log : List (Record E)) → unfit_under sites parts id top log ≡ None → (u : TxId) → aborted log u ≡ true → (prepared log u ≡ true) × (committed log u ≡ false)
   aborted_only [] f u h = absurd (true≢false (sym h))
-  aborted_only (Lease n ∷ log) f u h = aborted_only log (rest_fits sites parts id (Lease n) log f) u h
-  aborted_only (Prepare t l n s w ∷ log) f u h = let r = aborted_only log (rest_fits sites parts id (Prepare t l n s w) log f) u h in (or_right (same_tx t u) (prepared log u) r.0, r.1)
+  aborted_only (Lease n ∷ log) f u h = aborted_only log (rest_fits sites parts id top (Lease n) log f) u h
+  aborted_only (Prepare t l n s w ∷ log) f u h = let r = aborted_only log (rest_fits sites parts id top (Prepare t l n s w) log f) u h in (or_right (same_tx t u) (prepared log u) r.0, r.1)
   aborted_only (Decide t c ∷ log) f u h =
-      let r = aborted_only log (rest_fits sites parts id (Decide t c) log f) u h in
-      let waits = (decides sites parts id log t c (last_fits sites parts id (Decide t c) log f)).waits in
+      let r = aborted_only log (rest_fits sites parts id top (Decide t c) log f) u h in
+      let waits = (decides sites parts id top log t c (last_fits sites parts id top (Decide t c) log f)).waits in
       (r.0, or_from (same_tx t u) (committed log u) (not_again log t u waits h) r.1)
   aborted_only (Finish t c ∷ log) f u h =
-      let r = aborted_only log (rest_fits sites parts id (Finish t c) log f) u h in
-      let waits = (finishes sites parts id log t c (last_fits sites parts id (Finish t c) log f)).waits in
+      let r = aborted_only log (rest_fits sites parts id top (Finish t c) log f) u h in
+      let waits = (finishes sites parts id top log t c (last_fits sites parts id top (Finish t c) log f)).waits in
       (r.0, or_from (same_tx t u) (committed log u) (not_again log t u waits h) r.1)
   aborted_only (Abort t ∷ log) f u h = ⊎_elim
       (λ (e : same_tx t u ≡ true).
-      let w = waiting log t (last_fits sites parts id (Abort t) log f) in
+      let w = waiting log t (last_fits sites parts id top (Abort t) log f) in
       let is = same_tx_is t u e in
       (subst (λ v. prepared log v ≡ true) is w.0, subst (λ v. committed log v ≡ false) is w.1))
-      (λ (e : same_tx t u ≡ false). aborted_only log (rest_fits sites parts id (Abort t) log f) u (ap (λ b. b || aborted log u) (sym e) ∙ h))
+      (λ (e : same_tx t u ≡ false). aborted_only log (rest_fits sites parts id top (Abort t) log f) u (ap (λ b. b || aborted log u) (sym e) ∙ h))
       (cases_Bool (same_tx t u))
-  aborted_only (Batch m ∷ log) f u h = aborted_only log (rest_fits sites parts id (Batch m) log f) u h
+  aborted_only (Batch m ∷ log) f u h = aborted_only log (rest_fits sites parts id top (Batch m) log f) u h
 
-  aborted_unheld : (log : List (Record E)) → unfit sites parts id log ≡ None → (u : TxId) → aborted log u ≡ true → holds log u ≡ false
+  aborted_unheld : (log : List (Record E)) → unfit_under sites parts id top log ≡ None → (u : TxId) → aborted log u ≡ true → holds log u ≡ false
   aborted_unheld log f u h =
       let only = aborted_only log f u h in
-      or_from (committed log u) (taken log u) only.1 (false_from_ne_true _ (λ k. (taken_away sites parts id log f u k).away (prepared_home sites parts id log f u only.0).home))
+      or_from (committed log u) (taken log u) only.1 (false_from_ne_true _ (λ k. (taken_away sites parts id top log f u k).away (prepared_home sites parts id top log f u only.0).home))
 
+module _ {E : Type 0} (sites parts : ℕ) (id : PartId) where
   -- a log that fits is told by its condensed one
   condensed_alike : (log : List (Record E)) → unfit sites parts id log ≡ None → TellAlike (is_dropped log) log (condensed log)
   condensed_alike log f = let same = kept_whole false (is_dropped log) log in record {
@@ -258,7 +259,7 @@ module _ {E : Type 0} (sites parts : ℕ) (id : PartId) where
     others = λ u not_u. kept_facts false (is_dropped log) log u not_u;
     gone = λ u is_u.
         let both = and_parts (prepared log u) (aborted log u) is_u in
-        let held = aborted_unheld log f u both.1 in
+        let held = aborted_unheld sites parts id (ceiling log) log f u both.1 in
         let none = kept_unprepared false (is_dropped log) log u is_u in (
           record { waits = ap (λ b. prepared log u && not (committed log u || b)) both.1 ∙ waits_no_more (prepared log u) (committed log u); held = held },
           record {

@@ -10,3 +10,5 @@ pub mod Seeing
 pub mod Slots
 pub mod Steps
 pub mod Condensing
+pub mod Keeping
+pub mod CondensedFits

@@ -12,7 +12,7 @@ use Rattle.crdt_core.specs.declared.record.Part.{Part}
 use Rattle.crdt_core.specs.declared.record.Message.{Message}
 use Rattle.crdt_core.specs.declared.record.Record.{Record}
 use Rattle.crdt_core.specs.declared.record.Record.TheVariants.{Prepare, Decide, Abort, Batch}
-use Rattle.crdt_core.specs.Fitting.{unfit}
+use Rattle.crdt_core.specs.Fitting.{unfit_under}
 use Rattle.crdt_core.specs.Log.{prepared, prepare_time, prepared_lead, prepared_snapshot, prepared_changes, committed, committed_at, aborted, pending, taken, taken_at, taken_changes, logged_bound, holds, held_at, held_changes}
 use Rattle.crdt_core.specs.Parts.{lists, vector_in, changes_in}
 use Rattle.prepared_table.specs.declared.entry.Entry.{Entry}
@@ -25,7 +25,7 @@ use Rattle.log_recovery.proofs.Replacing.{entry_replaced, entry_other, width_rep
 use Rattle.log_recovery.proofs.EntryLists.{has_push, entries_push, single_push, entries_alike, has_between, entries_without, entry_there, alone, single_without}
 use Rattle.log_recovery.proofs.PartLists.{lists_append, parts_append, apart_append, parts_alike, parts_own, are_apart_is}
 
-module _ {E : Type 0} (sites parts : ℕ) (id : PartId) (log : List (Record E)) where
+module _ {E : Type 0} (sites parts : ℕ) (id : PartId) (top : ℕ) (log : List (Record E)) where
   -- who isn't named is neither waiting nor held
   apart_from : (P : TxId → Bool) (t u : TxId) → P t ≡ false → P u ≡ true → same_tx t u ≡ false
   apart_from P t u n h = false_from_ne_true _ (λ e. true≢false (sym h ∙ ap P (sym (same_tx_is t u e)) ∙ n))
@@ -36,9 +36,9 @@ module _ {E : Type 0} (sites parts : ℕ) (id : PartId) (log : List (Record E)) 
   unwaiting : (t : TxId) → IsUnknown log t → pending log t ≡ false
   unwaiting t k = ap (λ b. b && not (committed log t || aborted log t)) k.prepared
 
-  pub prepare_waits : (y : Entry E) (xs : List (Entry E)) → unfit sites parts id (Prepare y.tx y.lead y.time y.s y.updates ∷ log) ≡ None → ArePending log xs → ArePending (Prepare y.tx y.lead y.time y.s y.updates ∷ log) (xs ++ y ∷ [])
+  pub prepare_waits : (y : Entry E) (xs : List (Entry E)) → unfit_under sites parts id top (Prepare y.tx y.lead y.time y.s y.updates ∷ log) ≡ None → ArePending log xs → ArePending (Prepare y.tx y.lead y.time y.s y.updates ∷ log) (xs ++ y ∷ [])
   prepare_waits y xs f w =
-      let k = unknown log y.tx (prepares sites parts id log y.tx y.lead y.time y.s y.updates (last_fits sites parts id (Prepare y.tx y.lead y.time y.s y.updates) log f)).new in
+      let k = unknown log y.tx (prepares sites parts id top log y.tx y.lead y.time y.s y.updates (last_fits sites parts id top (Prepare y.tx y.lead y.time y.s y.updates) log f)).new in
       let other : (u : TxId) → has_entry xs u ≡ true → same_tx y.tx u ≡ false = λ u h. apart_from (pending log) y.tx u (unwaiting y.tx k) (sym (w.members u) ∙ h) in record {
         members = λ u. has_push xs y u ∙ ap (λ b. same_tx y.tx u || b) (w.members u) ∙ sym (begins (same_tx y.tx u) (prepared log u) (committed log u) (aborted log u) (λ e. ap (committed log) (sym (same_tx_is y.tx u e)) ∙ k.committed) (λ e. ap (aborted log) (sym (same_tx_is y.tx u e)) ∙ k.aborted));
         exact = entries_push (told (Prepare y.tx y.lead y.time y.s y.updates ∷ log)) xs y
@@ -49,9 +49,9 @@ module _ {E : Type 0} (sites parts : ℕ) (id : PartId) (log : List (Record E)) 
         single = single_push xs y w.single (w.members y.tx ∙ unwaiting y.tx k);
       }
 
-  pub prepare_holds : (t : TxId) (l n : ℕ) (s : List ℕ) (w : List (Upd E)) (ps : List (Part E)) → unfit sites parts id (Prepare t l n s w ∷ log) ≡ None → AreHeld log ps → AreHeld (Prepare t l n s w ∷ log) ps
+  pub prepare_holds : (t : TxId) (l n : ℕ) (s : List ℕ) (w : List (Upd E)) (ps : List (Part E)) → unfit_under sites parts id top (Prepare t l n s w ∷ log) ≡ None → AreHeld log ps → AreHeld (Prepare t l n s w ∷ log) ps
   prepare_holds t l n s w ps f h =
-      let k = unknown log t (prepares sites parts id log t l n s w (last_fits sites parts id (Prepare t l n s w) log f)).new in record {
+      let k = unknown log t (prepares sites parts id top log t l n s w (last_fits sites parts id top (Prepare t l n s w) log f)).new in record {
         members = h.members;
         exact = parts_alike (held_at log) (held_at (Prepare t l n s w ∷ log)) (held_changes log) (held_changes (Prepare t l n s w ∷ log)) ps
             (λ u e. (refl, ap (λ b. if committed log u then (if b then w else prepared_changes log u) else taken_changes log u) (sym (apart_from (holds log) t u (unheld t k) (sym (h.members u) ∙ e)))))
@@ -83,11 +83,11 @@ module _ {E : Type 0} (sites parts : ℕ) (id : PartId) (log : List (Record E)) 
       single = single_without xs y ys w.single;
     }
 
-    pub decide_holds : (c : List ℕ) (ps : List (Part E)) → unfit sites parts id log ≡ None → AreHeld log ps → AreHeld (Decide y.tx c ∷ log) (ps ++ record { tx = y.tx; c = c; updates = y.updates } ∷ [])
+    pub decide_holds : (c : List ℕ) (ps : List (Part E)) → unfit_under sites parts id top log ≡ None → AreHeld log ps → AreHeld (Decide y.tx c ∷ log) (ps ++ record { tx = y.tx; c = c; updates = y.updates } ∷ [])
     decide_holds c ps f h =
         let new : List (Record E) = Decide y.tx c ∷ log in
         let part : Part E = record { tx = y.tx; c = c; updates = y.updates } in
-        let out : holds log y.tx ≡ false = or_from (committed log y.tx) (taken log y.tx) (not_committed (prepared log y.tx) (committed log y.tx) (aborted log y.tx) waits) (pending_untaken sites parts id log f y.tx waits) in
+        let out : holds log y.tx ≡ false = or_from (committed log y.tx) (taken log y.tx) (not_committed (prepared log y.tx) (committed log y.tx) (aborted log y.tx) waits) (pending_untaken sites parts id top log f y.tx waits) in
         let other : (u : TxId) → lists ps u ≡ true → same_tx y.tx u ≡ false = λ u e. apart_from (holds log) y.tx u out (sym (h.members u) ∙ e) in record {
           members = λ u. lists_append ps (part ∷ []) u ∙ ap (λ b. b || (same_tx y.tx u || false)) (h.members u) ∙ ends (same_tx y.tx u) (committed log u) (taken log u);
           exact = parts_append (held_at new) (held_changes new) ps (part ∷ [])
@@ -106,10 +106,10 @@ module _ {E : Type 0} (sites parts : ℕ) (id : PartId) (log : List (Record E)) 
           apart = apart_append ps (part ∷ []) h.apart (refl, tt) (λ u e. ap (λ b. b || false) (other u e));
         }
 
-  pub batch_holds : (m : Message E) (ps : List (Part E)) → unfit sites parts id (Batch m ∷ log) ≡ None → AreHeld log ps → AreHeld (Batch m ∷ log) (ps ++ m.parts)
+  pub batch_holds : (m : Message E) (ps : List (Part E)) → unfit_under sites parts id top (Batch m ∷ log) ≡ None → AreHeld log ps → AreHeld (Batch m ∷ log) (ps ++ m.parts)
   batch_holds m ps f h =
       let new : List (Record E) = Batch m ∷ log in
-      let b = brings sites parts id log m (last_fits sites parts id (Batch m) log f) in
+      let b = brings sites parts id top log m (last_fits sites parts id top (Batch m) log f) in
       let fresh : (u : TxId) → lists m.parts u ≡ true → IsUnknown log u = λ u e. unknown log u (part_new log m.parts u b.new e) in
       let other : (u : TxId) → lists ps u ≡ true → lists m.parts u ≡ false = λ u e. false_from_ne_true _ (λ k. true≢false (sym e ∙ h.members u ∙ unheld u (fresh u k))) in record {
         members = λ u. lists_append ps m.parts u ∙ ap (λ x. x || lists m.parts u) (h.members u) ∙ or_turn (committed log u) (taken log u) (lists m.parts u);

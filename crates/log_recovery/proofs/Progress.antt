@@ -9,7 +9,7 @@ use Rattle.site_vector.specs.Order.{same_tx_is, same_tx_refl}
 use Rattle.site_vector.specs.Vector.{replaced}
 use Rattle.crdt_core.specs.declared.record.Upd.{Upd}
 use Rattle.crdt_core.specs.declared.record.Record.{Record}
-use Rattle.crdt_core.specs.Fitting.{unfit}
+use Rattle.crdt_core.specs.Fitting.{unfit, unfit_under}
 use Rattle.crdt_core.specs.Log.{ceiling, pending, prepare_time, held_at, held_changes, grown}
 use Rattle.prepared_table.specs.declared.entry.Entry.{Entry}
 use Rattle.prepared_table.specs.Entries.{has_entry}
@@ -42,17 +42,17 @@ module _ {E : Type 0} where
   pub progress_start : (sites : ℕ) (rs : List (Record E)) (l : Ledger E) → IsLedger [] l → length l.bounds ≡ sites → IsProgress sites (reverse rs) rs l
   progress_start sites rs l h w = record { log = []; read = h; left = whole_is rs; width = w }
 
-  fits_next : (sites parts : ℕ) (id : PartId) (whole log rest : List (Record E)) (r : Record E) → unfit sites parts id whole ≡ None → grown log (r ∷ rest) ≡ whole → unfit sites parts id (r ∷ log) ≡ None
-  fits_next sites parts id whole log rest r f e = front_fits sites parts id (r ∷ log) rest (subst (λ l. unfit sites parts id l ≡ None) (sym e) f)
+  fits_next : (sites parts : ℕ) (id : PartId) (top : ℕ) (whole log rest : List (Record E)) (r : Record E) → unfit_under sites parts id top whole ≡ None → grown log (r ∷ rest) ≡ whole → unfit_under sites parts id top (r ∷ log) ≡ None
+  fits_next sites parts id top whole log rest r f e = front_fits sites parts id top (r ∷ log) rest (subst (λ l. unfit_under sites parts id top l ≡ None) (sym e) f)
 
-  pub progress_next : (sites parts : ℕ) (id : PartId) (whole all rest : List (Record E)) (r : Record E) (l : Ledger E) → unfit sites parts id whole ≡ None → all ≡ r ∷ rest → IsProgress sites whole all l → IsNext l r
-  progress_next sites parts id whole all rest r l f e p = can_read sites parts id p.log l r p.read p.width (fits_next sites parts id whole p.log rest r f (ap (λ x. grown p.log x) (sym e) ∙ p.left))
+  pub progress_next : (sites parts : ℕ) (id : PartId) (top : ℕ) (whole all rest : List (Record E)) (r : Record E) (l : Ledger E) → unfit_under sites parts id top whole ≡ None → all ≡ r ∷ rest → IsProgress sites whole all l → IsNext l r
+  progress_next sites parts id top whole all rest r l f e p = can_read sites parts id top p.log l r p.read p.width (fits_next sites parts id top whole p.log rest r f (ap (λ x. grown p.log x) (sym e) ∙ p.left))
 
-  pub progress_more : (sites parts : ℕ) (id : PartId) (whole all rest : List (Record E)) (r : Record E) (old new : Ledger E) → unfit sites parts id whole ≡ None → all ≡ r ∷ rest → IsProgress sites whole all old → Reads old r new → length new.bounds ≡ length old.bounds
+  pub progress_more : (sites parts : ℕ) (id : PartId) (top : ℕ) (whole all rest : List (Record E)) (r : Record E) (old new : Ledger E) → unfit_under sites parts id top whole ≡ None → all ≡ r ∷ rest → IsProgress sites whole all old → Reads old r new → length new.bounds ≡ length old.bounds
       → IsProgress sites whole rest new
-  progress_more sites parts id whole all rest r old new f e p reads w =
+  progress_more sites parts id top whole all rest r old new f e p reads w =
       let left : grown p.log (r ∷ rest) ≡ whole = ap (λ x. grown p.log x) (sym e) ∙ p.left in
-      record { log = r ∷ p.log; read = reads sites parts id p.log p.read (fits_next sites parts id whole p.log rest r f left); left = left; width = w ∙ p.width }
+      record { log = r ∷ p.log; read = reads sites parts id top p.log p.read (fits_next sites parts id top whole p.log rest r f left); left = left; width = w ∙ p.width }
 
   pub progress_end : (sites : ℕ) (whole all : List (Record E)) (l : Ledger E) → all ≡ [] → IsProgress sites whole all l → IsLedger whole l
   progress_end sites whole all l e p = subst (λ log. IsLedger log l) (ap (λ x. grown p.log x) (sym e) ∙ p.left) p.read
@@ -91,7 +91,7 @@ module _ {E : Type 0} where
       members = h.waiting.members;
       exact = h.waiting.exact;
       single = h.waiting.single;
-      wide = entries_wide sites (told log) l.waiting h.waiting.exact (λ u k. (pending_home sites parts id log f u (sym (h.waiting.members u) ∙ k)).wide);
+      wide = entries_wide sites (told log) l.waiting h.waiting.exact (λ u k. (pending_home sites parts id (ceiling log) log f u (sym (h.waiting.members u) ∙ k)).wide);
     }
 
     pub committed_is : IsCommitted sites log l.committed
@@ -99,11 +99,11 @@ module _ {E : Type 0} where
       members = h.committed.members;
       exact = h.committed.exact;
       apart = h.committed.apart;
-      wide = parts_wide sites (held_at log) (held_changes log) l.committed h.committed.exact (λ u k. held_wide sites parts id log f u (sym (h.committed.members u) ∙ k));
+      wide = parts_wide sites (held_at log) (held_changes log) l.committed h.committed.exact (λ u k. held_wide sites parts id (ceiling log) log f u (sym (h.committed.members u) ∙ k));
     }
 
     timed : (u : TxId) → pending log u ≡ true → 1 ≤ prepare_time log u
-    timed u k = (pending_home sites parts id log f u k).timed
+    timed u k = (pending_home sites parts id (ceiling log) log f u k).timed
 
     own_is : IsOwnBound (ceiling log) log (least_below l.ceiling l.waiting)
     own_is = subst (λ n. IsOwnBound n log (least_below l.ceiling l.waiting)) h.ceiling (record {

@@ -3,7 +3,7 @@ use Rattle.std.proofs.Common.{◌≡◌, ℕ, ◌≤◌, Bool, true, List, ◌�
 use Rattle.site_vector.specs.declared.ids.PartId.{PartId}
 use Rattle.site_vector.specs.Vector.{replaced}
 use Rattle.crdt_core.specs.declared.record.Record.{Record}
-use Rattle.crdt_core.specs.Fitting.{fits_record, unfit, unfit_next}
+use Rattle.crdt_core.specs.Fitting.{fits_record, unfit, unfit_next, unfit_under}
 use Rattle.log_recovery.specs.declared.ledger.Ledger.{Ledger}
 use Rattle.log_recovery.specs.declared.recovery.Rebuilt.{Rebuilt}
 use Rattle.log_recovery.specs.declared.recovery.Recovery.{Recovery}
@@ -15,17 +15,18 @@ use Rattle.log_recovery.specs.Told.{HasRead, IsToldBy}
 use Rattle.log_recovery.proofs.Progress.{pending_is, committed_is, known_is}
 use Rattle.log_recovery.proofs.Records.{can_read}
 
-module _ {E : Type 0} (sites parts : ℕ) (id : PartId) where
-  module _ (log : List (Record E)) (next : Record E) (old : Recovery E) (h : HasRead sites parts id log old) (fits : Bool) (judges : Judges old.seen next fits) where
-    judged : fits ≡ fits_record sites parts id log next
-    judged = judges log h.seen ∙ (λ i. fits_record (h.sites_are i) (h.parts_are i) (h.id_is i) log next)
+module _ {E : Type 0} (sites parts : ℕ) (id : PartId) (top : ℕ) where
+  module _ (log : List (Record E)) (next : Record E) (old : Recovery E) (h : HasRead sites parts id top log old) (fits : Bool) (judges : Judges old.seen next fits) where
+    judged : fits ≡ fits_record sites parts id top log next
+    judged = judges log h.seen ∙ (λ i. fits_record (h.sites_are i) (h.parts_are i) (h.id_is i) (h.top_is i) log next)
 
-    still_fits : fits ≡ true → unfit sites parts id (next ∷ log) ≡ None
-    still_fits f = ap (λ o. unfit_next o (fits_record sites parts id log next) (length log)) h.fits ∙ ap (λ b. unfit_next None b (length log)) (sym judged ∙ f)
+    still_fits : fits ≡ true → unfit_under sites parts id top (next ∷ log) ≡ None
+    still_fits f = ap (λ o. unfit_next o (fits_record sites parts id top log next) (length log)) h.fits ∙ ap (λ b. unfit_next None b (length log)) (sym judged ∙ f)
 
     pub may_read : fits ≡ true → IsNext old.ledger next
-    may_read f = can_read sites parts id log old.ledger next h.ledger h.width (still_fits f)
+    may_read f = can_read sites parts id top log old.ledger next h.ledger h.width (still_fits f)
 
+module _ {E : Type 0} (sites parts : ℕ) (id : PartId) where
   module _ (log : List (Record E)) (f : unfit sites parts id log ≡ None) (l : Ledger E) (h : IsLedger log l) (width : length l.bounds ≡ sites) (least : 1 ≤ id.site) (most : id.site ≤ sites) where
     pub all_told : (told : Rebuilt E) → told.ceiling ≡ l.ceiling → told.pending ≡ l.waiting → told.committed ≡ l.committed → told.bounds ≡ replaced l.bounds id.site (least_below l.ceiling l.waiting) → told.last_decided ≡ l.last_decided → IsToldBy sites parts id log told
     all_told told a b c d e = record {

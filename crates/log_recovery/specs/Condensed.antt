@@ -1,5 +1,5 @@
 -- A log without what no restart needs.
-use Rattle.std.specs.Prelude.{◌≡◌, ℕ, ◌&&◌, Bool, true, false, if◌then◌else◌, List, [], ◌∷◌, ⊤}
+use Rattle.std.specs.Prelude.{◌≡◌, ℕ, ◌+◌, ◌&&◌, Bool, true, false, not, if◌then◌else◌, List, [], ◌∷◌, Option, Some, None, ⊤}
 use Rattle.site_vector.specs.declared.ids.TxId.{TxId}
 use Rattle.crdt_core.specs.declared.record.Upd.{Upd}
 use Rattle.crdt_core.specs.declared.record.Record.{Record}
@@ -20,6 +20,29 @@ module _ {E : Type 0} where
   kept leased dropped (Finish t c ∷ log) = Finish t c ∷ kept leased dropped log
   kept leased dropped (Abort t ∷ log) = if dropped t then kept leased dropped log else Abort t ∷ kept leased dropped log
   kept leased dropped (Batch m ∷ log) = Batch m ∷ kept leased dropped log
+
+  abbrev pub aborted_by : Record E → Option TxId
+  aborted_by (Abort t) = Some t
+  aborted_by other = None
+
+  abbrev pub prepared_by : Record E → Option TxId
+  prepared_by (Prepare t l n s w) = Some t
+  prepared_by other = None
+
+  abbrev pub is_lease : Record E → Bool
+  is_lease (Lease n) = true
+  is_lease other = false
+
+  abbrev pub leases_in : List (Record E) → ℕ
+  leases_in [] = 0
+  leases_in (r ∷ rs) = if is_lease r then 1 + leases_in rs else leases_in rs
+
+  -- whether a record stays, behind which a lease was kept or not
+  abbrev pub stays : Bool → (TxId → Bool) → Record E → Bool
+  stays leased dropped (Lease n) = not leased
+  stays leased dropped (Prepare t l n s w) = not (dropped t)
+  stays leased dropped (Abort t) = not (dropped t)
+  stays leased dropped other = true
 
   -- the log without the leases before its last one, and without each prepare that has an abort, and that abort
   abbrev pub condensed : List (Record E) → List (Record E)

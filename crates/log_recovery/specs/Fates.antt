@@ -13,7 +13,7 @@ use Rattle.crdt_core.specs.declared.record.Part.{Part}
 use Rattle.crdt_core.specs.declared.record.Message.{Message}
 use Rattle.crdt_core.specs.declared.record.Record.{Record}
 use Rattle.crdt_core.specs.Fitting.{is_vector, are_placed_at, fits_part, are_apart, fits_record}
-use Rattle.crdt_core.specs.Log.{end_of_time, ceiling, pending, prepare_time, prepared_lead, prepared_snapshot, is_named_in}
+use Rattle.crdt_core.specs.Log.{end_of_time, pending, prepare_time, prepared_lead, prepared_snapshot, is_named_in}
 use Rattle.log_recovery.specs.declared.named.Fate.{Fate}
 use Rattle.log_recovery.specs.declared.named.Fate.TheVariants.{Waits, Ended}
 use Rattle.log_recovery.specs.declared.named.Vote.{Vote}
@@ -59,11 +59,12 @@ pub record IsSound (seen : Seen) : Type 0 where
   pub bounds : length seen.bounds ≡ seen.sites
   pub votes : AreWideVotes seen.sites (fates_of seen)
 
--- of the same partition
+-- of the same partition, under the same ceiling
 pub record IsSamePlace (old new : Seen) : Type 0 where
   pub id : new.id ≡ old.id
   pub sites : new.sites ≡ old.sites
   pub parts : new.parts ≡ old.parts
+  pub top : new.top ≡ old.top
 
 -- a commit vector of a vote: its snapshot, with an own entry that is at least its time
 abbrev pub may_commit : ℕ → PartId → Vote → List ℕ → Bool
@@ -76,7 +77,6 @@ may_end sites id leads (Some vote) c = (if leads then vote.lead == id.part else 
 
 -- nothing was seen
 pub record IsEmpty (seen : Seen) : Type 0 where
-  pub ceiling : seen.ceiling ≡ 0
   pub fates : (u : TxId) → fates_of seen u ≡ None
   pub bounds : (j : ℕ) → entry seen.bounds j ≡ 0
 
@@ -89,26 +89,25 @@ module _ {E : Type 0} where
 
   -- what was seen is what the log tells
   pub record IsSeen (log : List (Record E)) (seen : Seen) : Type 0 where
-    pub ceiling : seen.ceiling ≡ ceiling log
     pub fates : (u : TxId) → fates_of seen u ≡ fate_in log u
     pub bounds : AreBounds log seen.bounds
 
   -- the answer whether a record fits after what was seen
   abbrev pub Judges : Seen → Record E → Bool → Type 0
-  Judges seen r fits = (log : List (Record E)) → IsSeen log seen → fits ≡ fits_record seen.sites seen.parts seen.id log r
+  Judges seen r fits = (log : List (Record E)) → IsSeen log seen → fits ≡ fits_record seen.sites seen.parts seen.id seen.top log r
 
   -- a record that fits is seen
   abbrev pub Sees : Seen → Record E → Seen → Type 0
-  Sees old r new = (log : List (Record E)) → IsSeen log old → fits_record old.sites old.parts old.id log r ≡ true → IsSeen (r ∷ log) new
+  Sees old r new = (log : List (Record E)) → IsSeen log old → fits_record old.sites old.parts old.id old.top log r ≡ true → IsSeen (r ∷ log) new
 
   -- the snapshot, the updates and the time of a vote
   abbrev pub is_vote : ℕ → ℕ → PartId → ℕ → Vote → List (Upd E) → Bool
-  is_vote sites parts id ceiling vote w = is_vector sites vote.s && (are_placed_at parts id.part w && (ltb (entry vote.s id.site) vote.time && leb vote.time ceiling))
+  is_vote sites parts id top vote w = is_vector sites vote.s && (are_placed_at parts id.part w && (ltb (entry vote.s id.site) vote.time && leb vote.time top))
 
   -- a vote that fits, unless it is of a transaction that was named
   abbrev pub may_prepare : ℕ → ℕ → PartId → Bool → ℕ → TxId → Vote → List (Upd E) → Bool
-  may_prepare sites parts id named ceiling t vote w =
-      t.site == id.site && (leb 1 t.part && (leb t.part parts && (not named && (leb 1 vote.lead && (leb vote.lead id.part && is_vote sites parts id ceiling vote w)))))
+  may_prepare sites parts id named top t vote w =
+      t.site == id.site && (leb 1 t.part && (leb t.part parts && (not named && (leb 1 vote.lead && (leb vote.lead id.part && is_vote sites parts id top vote w)))))
 
   -- a message for the partition
   abbrev pub is_for : ℕ → PartId → Message E → Bool

@@ -1,4 +1,4 @@
--- What holds of every log whose records fit the partition.
+-- What holds of every log whose records fit the partition, under whatever ceiling.
 use Rattle.std.proofs.Common.{◌≡◌, ◌≢◌, ⊎_elim, ℕ, ◌≤◌, Bool, true, false, not, ◌||◌, leb, ltb, List, [], ◌∷◌, length, Option, None, Some, refl, sym, ap, ◌∙◌, subst, arith}
 use Rattle.std.specs.Prelude.{◌==◌, if◌then◌else◌}
 use Rattle.std.specs.List.{list_all}
@@ -13,10 +13,9 @@ use Rattle.crdt_core.specs.declared.record.Part.{Part}
 use Rattle.crdt_core.specs.declared.record.Message.{Message}
 use Rattle.crdt_core.specs.declared.record.Record.{Record}
 use Rattle.crdt_core.specs.declared.record.Record.TheVariants.{Lease, Prepare, Decide, Finish, Abort, Batch}
-use Rattle.crdt_core.specs.Fitting.{is_vector, are_placed_at, fits_commit, fits_part, are_apart, fits_message, fits_record, unfit, unfit_next}
-use Rattle.crdt_core.specs.Log.{end_of_time, ceiling, prepared, prepare_time, prepared_lead, prepared_snapshot, committed, committed_at, aborted, pending, taken, taken_at, logged_bound, is_named_in, holds, held_at, grown}
+use Rattle.crdt_core.specs.Fitting.{is_vector, are_placed_at, fits_commit, fits_part, are_apart, fits_message, fits_record, unfit_next, unfit_under}
+use Rattle.crdt_core.specs.Log.{end_of_time, prepared, prepare_time, prepared_lead, prepared_snapshot, committed, committed_at, aborted, pending, taken, taken_at, logged_bound, is_named_in, holds, held_at, grown}
 use Rattle.crdt_core.specs.Parts.{lists, vector_in}
-use Rattle.log_recovery.specs.Rising.{Rises}
 
 or_both : (a b c : Bool) → (b ≡ true → c ≡ true) → (a || b) ≡ true → (a || c) ≡ true
 or_both true b c f h = refl
@@ -109,16 +108,17 @@ fits_first (Some k) b n h = absurd (let e : Some k ≡ None = h in cc)
 fits_first None true n h = (refl, refl)
 fits_first None false n h = absurd (let e : Some n ≡ None = h in cc)
 
-module _ {E : Type 0} (sites parts : ℕ) (id : PartId) where
+-- under a ceiling of the log's last lease
+module _ {E : Type 0} (sites parts : ℕ) (id : PartId) (top : ℕ) where
   -- what the record of a prepare that fits says
   pub record Prepares (log : List (Record E)) (t : TxId) (n : ℕ) (s : List ℕ) : Type 0 where
     pub home : t.site ≡ id.site
     pub new : is_named_in log t ≡ false
     pub wide : length s ≡ sites
     pub timed : 1 ≤ n
-    pub under : n ≤ ceiling log
+    pub under : n ≤ top
 
-  pub prepares : (log : List (Record E)) (t : TxId) (l n : ℕ) (s : List ℕ) (w : List (Upd E)) → fits_record sites parts id log (Prepare t l n s w) ≡ true → Prepares log t n s
+  pub prepares : (log : List (Record E)) (t : TxId) (l n : ℕ) (s : List ℕ) (w : List (Upd E)) → fits_record sites parts id top log (Prepare t l n s w) ≡ true → Prepares log t n s
   prepares log t l n s w f =
       let a = and_parts (t.site == id.site) _ f in
       let b = and_parts (leb 1 t.part) _ a.1 in
@@ -128,13 +128,13 @@ module _ {E : Type 0} (sites parts : ℕ) (id : PartId) where
       let g = and_parts (leb l id.part) _ e.1 in
       let h = and_parts (is_vector sites s) _ g.1 in
       let i = and_parts (are_placed_at parts id.part w) _ h.1 in
-      let j = and_parts (ltb (entry s id.site) n) (leb n (ceiling log)) i.1 in
+      let j = and_parts (ltb (entry s id.site) n) (leb n top) i.1 in
       let over = ltb-true (entry s id.site) n j.0 in record {
         home = eqb-true t.site id.site a.0;
         new = not-true (is_named_in log t) d.0;
         wide = eqb-true (length s) sites (and_parts (length s == sites) _ h.0).0;
         timed = omega (arith, over);
-        under = leb-true n (ceiling log) j.1;
+        under = leb-true n top j.1;
       }
 
   -- what the record of a commit that fits says
@@ -145,13 +145,13 @@ module _ {E : Type 0} (sites parts : ℕ) (id : PartId) where
   commit_wide : (log : List (Record E)) (t : TxId) (c : List ℕ) → fits_commit sites id log t c ≡ true → length c ≡ sites
   commit_wide log t c f = eqb-true (length c) sites (and_parts (length c == sites) _ (and_parts (is_vector sites c) _ f).0).0
 
-  pub decides : (log : List (Record E)) (t : TxId) (c : List ℕ) → fits_record sites parts id log (Decide t c) ≡ true → Ends log t c
+  pub decides : (log : List (Record E)) (t : TxId) (c : List ℕ) → fits_record sites parts id top log (Decide t c) ≡ true → Ends log t c
   decides log t c f =
       let a = and_parts (pending log t) _ f in
       let b = and_parts (prepared_lead log t == id.part) _ a.1 in
       record { waits = a.0; wide = commit_wide log t c b.1 }
 
-  pub finishes : (log : List (Record E)) (t : TxId) (c : List ℕ) → fits_record sites parts id log (Finish t c) ≡ true → Ends log t c
+  pub finishes : (log : List (Record E)) (t : TxId) (c : List ℕ) → fits_record sites parts id top log (Finish t c) ≡ true → Ends log t c
   finishes log t c f =
       let a = and_parts (pending log t) _ f in
       let b = and_parts (not (prepared_lead log t == id.part)) _ a.1 in
@@ -166,7 +166,7 @@ module _ {E : Type 0} (sites parts : ℕ) (id : PartId) where
     pub apart : are_apart m.parts ≡ true
     pub new : list_all (λ x. not (is_named_in log x.tx)) m.parts ≡ true
 
-  pub brings : (log : List (Record E)) (m : Message E) → fits_record sites parts id log (Batch m) ≡ true → Brings log m
+  pub brings : (log : List (Record E)) (m : Message E) → fits_record sites parts id top log (Batch m) ≡ true → Brings log m
   brings log m f =
       let both = and_parts (fits_message sites parts id m) _ f in
       let a = and_parts (not (m.from == id.site)) _ both.0 in
@@ -186,13 +186,13 @@ module _ {E : Type 0} (sites parts : ℕ) (id : PartId) where
       }
 
   abbrev pub Fit : List (Record E) → Type 0
-  Fit log = unfit sites parts id log ≡ None
+  Fit log = unfit_under sites parts id top log ≡ None
 
   pub rest_fits : (r : Record E) (log : List (Record E)) → Fit (r ∷ log) → Fit log
-  rest_fits r log f = (fits_first (unfit sites parts id log) (fits_record sites parts id log r) (length log) f).0
+  rest_fits r log f = (fits_first (unfit_under sites parts id top log) (fits_record sites parts id top log r) (length log) f).0
 
-  pub last_fits : (r : Record E) (log : List (Record E)) → Fit (r ∷ log) → fits_record sites parts id log r ≡ true
-  last_fits r log f = (fits_first (unfit sites parts id log) (fits_record sites parts id log r) (length log) f).1
+  pub last_fits : (r : Record E) (log : List (Record E)) → Fit (r ∷ log) → fits_record sites parts id top log r ≡ true
+  last_fits r log f = (fits_first (unfit_under sites parts id top log) (fits_record sites parts id top log r) (length log) f).1
 
   -- what was prepared here began at this site, at a time above 0, on a snapshot with an entry for each site
   pub record IsHome (log : List (Record E)) (u : TxId) : Type 0 where
@@ -287,21 +287,21 @@ module _ {E : Type 0} (sites parts : ℕ) (id : PartId) where
       (λ (e : committed log u ≡ false). ap (λ b. length (if b then committed_at log u else taken_at log u)) e ∙ (taken_away log f u (ap (λ b. b || taken log u) (sym e) ∙ h)).wide)
       (cases_Bool (committed log u))
 
-  -- where leases rise, no prepare time is above the ceiling
-  pub prepared_under : (log : List (Record E)) → Fit log → Rises log → (u : TxId) → prepared log u ≡ true → prepare_time log u ≤ ceiling log
-  prepared_under [] f r u h = absurd (true≢false (sym h))
-  prepared_under (Lease n ∷ log) f r u h = let a = prepared_under log (rest_fits (Lease n) log f) r.1 u h in let b = r.0 in omega (arith, a, b)
-  prepared_under (Prepare t l n s w ∷ log) f r u h = ⊎_elim
-      (λ (e : same_tx t u ≡ true). subst (λ b. (if b then n else prepare_time log u) ≤ ceiling log) (sym e) (prepares log t l n s w (last_fits (Prepare t l n s w) log f)).under)
-      (λ (e : same_tx t u ≡ false). subst (λ b. (if b then n else prepare_time log u) ≤ ceiling log) (sym e) (prepared_under log (rest_fits (Prepare t l n s w) log f) r u (ap (λ b. b || prepared log u) (sym e) ∙ h)))
+  -- no prepare time is above the ceiling
+  pub prepared_under : (log : List (Record E)) → Fit log → (u : TxId) → prepared log u ≡ true → prepare_time log u ≤ top
+  prepared_under [] f u h = absurd (true≢false (sym h))
+  prepared_under (Lease n ∷ log) f u h = prepared_under log (rest_fits (Lease n) log f) u h
+  prepared_under (Prepare t l n s w ∷ log) f u h = ⊎_elim
+      (λ (e : same_tx t u ≡ true). subst (λ b. (if b then n else prepare_time log u) ≤ top) (sym e) (prepares log t l n s w (last_fits (Prepare t l n s w) log f)).under)
+      (λ (e : same_tx t u ≡ false). subst (λ b. (if b then n else prepare_time log u) ≤ top) (sym e) (prepared_under log (rest_fits (Prepare t l n s w) log f) u (ap (λ b. b || prepared log u) (sym e) ∙ h)))
       (cases_Bool (same_tx t u))
-  prepared_under (Decide t c ∷ log) f r u h = prepared_under log (rest_fits (Decide t c) log f) r u h
-  prepared_under (Finish t c ∷ log) f r u h = prepared_under log (rest_fits (Finish t c) log f) r u h
-  prepared_under (Abort t ∷ log) f r u h = prepared_under log (rest_fits (Abort t) log f) r u h
-  prepared_under (Batch m ∷ log) f r u h = prepared_under log (rest_fits (Batch m) log f) r u h
+  prepared_under (Decide t c ∷ log) f u h = prepared_under log (rest_fits (Decide t c) log f) u h
+  prepared_under (Finish t c ∷ log) f u h = prepared_under log (rest_fits (Finish t c) log f) u h
+  prepared_under (Abort t ∷ log) f u h = prepared_under log (rest_fits (Abort t) log f) u h
+  prepared_under (Batch m ∷ log) f u h = prepared_under log (rest_fits (Batch m) log f) u h
 
-  pub pending_under : (log : List (Record E)) → Fit log → Rises log → (u : TxId) → pending log u ≡ true → prepare_time log u ≤ ceiling log
-  pending_under log f r u h = prepared_under log f r u (pending_prepared log u h)
+  pub pending_under : (log : List (Record E)) → Fit log → (u : TxId) → pending log u ≡ true → prepare_time log u ≤ top
+  pending_under log f u h = prepared_under log f u (pending_prepared log u h)
 
   -- of a log that fits each front fits, the oldest first
   pub front_fits : (log more : List (Record E)) → Fit (grown log more) → Fit log

@@ -6,7 +6,7 @@ use Rattle.site_vector.specs.Vector.{entry, replaced}
 use Rattle.crdt_core.specs.declared.record.Part.{Part}
 use Rattle.crdt_core.specs.declared.record.Record.{Record}
 use Rattle.crdt_core.specs.declared.record.Record.TheVariants.{Lease, Prepare, Decide, Finish, Abort, Batch}
-use Rattle.crdt_core.specs.Fitting.{unfit}
+use Rattle.crdt_core.specs.Fitting.{unfit_under}
 use Rattle.crdt_core.specs.Log.{ceiling, pending, holds, held_at, held_changes, logged_bound, last_decided}
 use Rattle.crdt_core.specs.Parts.{lists, AreParts}
 use Rattle.prepared_table.specs.declared.entry.Entry.{Entry}
@@ -39,9 +39,9 @@ module _ {E : Type 0} where
     pub bounds : AreBounds log l.bounds
     pub last_decided : l.last_decided ≡ last_decided log
 
-  -- the record is read: where the log with it fits a partition, the ledger is what that log tells
+  -- the record is read: where the log with it fits a partition, under any ceiling, the ledger is what that log tells
   abbrev pub Reads : Ledger E → Record E → Ledger E → Type 0
-  Reads old r new = (sites parts : ℕ) (id : PartId) (log : List (Record E)) → IsLedger log old → unfit sites parts id (r ∷ log) ≡ None → IsLedger (r ∷ log) new
+  Reads old r new = (sites parts : ℕ) (id : PartId) (top : ℕ) (log : List (Record E)) → IsLedger log old → unfit_under sites parts id top (r ∷ log) ≡ None → IsLedger (r ∷ log) new
 
   -- a record that may be read next: what ends is waiting, what is prepared isn't, and a batch is of one of the sites
   abbrev pub IsNext : Ledger E → Record E → Type 0

@@ -1,5 +1,6 @@
 ghost use Rattle.std.specs.Prelude.{◌≡◌, ◌≤◌, reverse, IfOk};
 ghost use Rattle.crdt_core.specs.Fitting.{unfit};
+ghost use Rattle.crdt_core.specs.Log.{ceiling};
 
 use crate::seen::Seen;
 use crdt_core::Record;
@@ -26,11 +27,25 @@ pub fn unfit<E>(
     requires some { 1 ≤ parts }
     ensures { IfOk result (λ first. first ≡ unfit sites parts id (reverse records.now)) }
 {
-    let mut seen = Seen::new(alloc, id, sites, parts);
+    let top = ceiling_of(records);
+    let mut seen = Seen::new(alloc, id, sites, parts, top);
     for (number, record) in records.iter().enumerate() {
         if !seen.see(record)? {
             return Ok(Some(number));
         }
     }
     Ok(None)
+}
+
+/// The ceiling of the last lease among the records of a log, oldest first, in logical ticks: 0 where there is none.
+pub fn ceiling_of<E>(records: &[Record<E>]) -> u64
+    ensures { result ≡ ceiling (reverse records.now) }
+{
+    let mut top = 0;
+    for record in records {
+        if let Record::Lease { ceil } = record {
+            top = *ceil;
+        }
+    }
+    top
 }

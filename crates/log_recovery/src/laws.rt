@@ -7,24 +7,26 @@ ghost use Rattle.crdt_core.specs.Log.{end_of_time, ceiling, prepare_time, pendin
 ghost use Rattle.log_recovery.specs.Condensed.{is_dropped, condensed, NamesNone, told_vote, told_part};
 ghost use Rattle.log_recovery.specs.Rising.{Rises};
 
-/// What holds of every log whose records fit the partition. What is pending began at its site, at a time above 0, and
-/// isn't held; what was committed here began at its site, and what was brought began at another.
+/// What holds of every log whose records fit the partition. What is pending began at its site, at a time above 0 and of
+/// at most the ceiling, and isn't held; what was committed here began at its site, and what was brought began at another.
 ///
-/// Where leases rise, no pending prepare time is above the ceiling. They rise as long as each lease is the one for a
-/// time, and then also in what a restart finds of a call that was cut off.
+/// Leases rise as long as each is the one for a time, and then also in what a restart finds of a call that was cut off.
 pub fn law_fitting<E>()
     ensures pending { (sites parts : ℕ) (id : PartId) (log : List (Record E)) → unfit sites parts id log ≡ None → (u : TxId) → pending log u ≡ true → (u.site ≡ id.site) × (1 ≤ prepare_time log u) × (holds log u ≡ false) }
     ensures committed { (sites parts : ℕ) (id : PartId) (log : List (Record E)) → unfit sites parts id log ≡ None → (u : TxId) → committed log u ≡ true → u.site ≡ id.site }
     ensures taken { (sites parts : ℕ) (id : PartId) (log : List (Record E)) → unfit sites parts id log ≡ None → (u : TxId) → taken log u ≡ true → u.site ≢ id.site }
-    ensures under { (sites parts : ℕ) (id : PartId) (log : List (Record E)) → unfit sites parts id log ≡ None → Rises log → (u : TxId) → pending log u ≡ true → prepare_time log u ≤ ceiling log }
+    ensures under { (sites parts : ℕ) (id : PartId) (log : List (Record E)) → unfit sites parts id log ≡ None → (u : TxId) → pending log u ≡ true → prepare_time log u ≤ ceiling log }
     ensures rises { (log : List (Record E)) (n : ℕ) → n ≤ end_of_time → Rises log → Rises (grown log (lease_for log n)) }
     ensures found { (log more image : List (Record E)) → Rises (grown log more) → MayFind log more image → Rises image }
 {}
 
 /// What a restart is told of a log whose records fit, its condensed one tells too, also behind the same further records,
 /// where these name no transaction that was dropped: who waits and its vote, what is held and its part, the ceiling, the
-/// last decision, and up to where the batches of each site go.
+/// last decision, and up to where the batches of each site go. And where the whole log fits with them, the condensed one
+/// does.
 pub fn law_condense<E>()
+    ensures fits { (sites parts : ℕ) (id : PartId) (log more : List (Record E)) → unfit sites parts id (grown log more) ≡ None
+        → NamesNone (is_dropped log) more → unfit sites parts id (grown (condensed log) more) ≡ None }
     ensures pending { (sites parts : ℕ) (id : PartId) (log more : List (Record E)) → unfit sites parts id log ≡ None
         → NamesNone (is_dropped log) more → (u : TxId)
         → pending (grown (condensed log) more) u ≡ pending (grown log more) u }

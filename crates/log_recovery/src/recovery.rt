@@ -2,6 +2,7 @@ ghost use Rattle.std.specs.Prelude.{◌≡◌, ◌≤◌, [], ℕ, List, None, l
 ghost use Rattle.site_vector.specs.declared.ids.PartId.{PartId};
 ghost use Rattle.crdt_core.specs.declared.record.Record.{Record};
 ghost use Rattle.crdt_core.specs.Fitting.{unfit};
+ghost use Rattle.crdt_core.specs.Log.{ceiling};
 ghost use Rattle.log_recovery.specs.Ledgers.{IsLedger};
 ghost use Rattle.log_recovery.specs.Lists.{least_below};
 ghost use Rattle.log_recovery.specs.Told.{HasRead, ReadsNext, IsToldBy};
@@ -40,17 +41,17 @@ pub struct Recovery<E> {
 
 impl<E: Drop> Recovery<E> {
     /// Nothing was read yet of the log of this partition, in a cluster of 1 to 8 sites with so many partitions each.
-    /// Takes no memory.
-    pub fn new(alloc: Global, id: PartId, sites: u8, parts: u8) -> Recovery<E>
+    /// The last lease of the log has the ceiling `top`, in logical ticks; a log with no lease has 0. Takes no memory.
+    pub fn new(alloc: Global, id: PartId, sites: u8, parts: u8, top: u64) -> Recovery<E>
         requires least { 1 ≤ sites }
         requires most { sites ≤ 8 }
         requires first { 1 ≤ id.site }
         requires last { id.site ≤ sites }
         requires some { 1 ≤ parts }
-        ensures { HasRead sites parts id [] result }
+        ensures { HasRead sites parts id top [] result }
     {
         Recovery {
-            seen: Seen::new(alloc, id, sites, parts),
+            seen: Seen::new(alloc, id, sites, parts, top),
             ledger: Ledger::new(alloc, sites),
         }
     }
@@ -61,9 +62,9 @@ impl<E: Drop> Recovery<E> {
     ///
     /// `AllocError` where memory runs out. What was read is of no use then, nor where the record doesn't fit.
     pub fn read(&mut self, next: Record<E>) -> Result<bool, AllocError>
-        requires { (sites parts : ℕ) × (id : PartId) × (log : List (Record E)) × HasRead sites parts id log self.old }
-        ensures { (sites parts : ℕ) (id : PartId) (log : List (Record E)) → HasRead sites parts id log self.old
-            → IfOk result (ReadsNext sites parts id log next self.new) }
+        requires { (sites parts : ℕ) × (id : PartId) × (top : ℕ) × (log : List (Record E)) × HasRead sites parts id top log self.old }
+        ensures { (sites parts : ℕ) (id : PartId) (top : ℕ) (log : List (Record E)) → HasRead sites parts id top log self.old
+            → IfOk result (ReadsNext sites parts id top log next self.new) }
     {
         if !self.seen.see(&next)? {
             return Ok(false);
@@ -72,14 +73,14 @@ impl<E: Drop> Recovery<E> {
         Ok(true)
     }
 
-    /// What the records tell that were read.
+    /// What the records tell that were read, the last lease among them.
     ///
     /// # Errors
     ///
     /// `AllocError` where memory runs out.
     pub fn finish(self, alloc: Global) -> Result<Rebuilt<E>, AllocError>
-        requires { (sites parts : ℕ) × (id : PartId) × (log : List (Record E)) × HasRead sites parts id log self }
-        ensures { (sites parts : ℕ) (id : PartId) (log : List (Record E)) → HasRead sites parts id log self
+        requires { (sites parts : ℕ) × (id : PartId) × (top : ℕ) × (log : List (Record E)) × HasRead sites parts id top log self }
+        ensures { (sites parts : ℕ) (id : PartId) (log : List (Record E)) → HasRead sites parts id (ceiling log) log self
             → IfOk result (IsToldBy sites parts id log) }
     {
         let Recovery { seen, ledger } = self;

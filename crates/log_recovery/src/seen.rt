@@ -20,14 +20,15 @@ pub(crate) struct Seen {
     pub(crate) id: PartId,
     pub(crate) sites: u8,
     pub(crate) parts: u8,
-    pub(crate) ceiling: u64,
+    /// The ceiling of the last lease of the whole log: no vote has a later time.
+    pub(crate) top: u64,
     pub(crate) named: Named,
     pub(crate) bounds: VTime,
 }
 
 impl Seen {
-    /// Nothing was seen yet. Takes no memory.
-    pub(crate) fn new(alloc: Global, id: PartId, sites: u8, parts: u8) -> Seen
+    /// Nothing was seen yet of a log whose last lease has this ceiling. Takes no memory.
+    pub(crate) fn new(alloc: Global, id: PartId, sites: u8, parts: u8, top: u64) -> Seen
         requires least { 1 ≤ sites }
         requires most { sites ≤ 8 }
         requires first { 1 ≤ id.site }
@@ -38,12 +39,13 @@ impl Seen {
         ensures id { result.id ≡ id }
         ensures sites { result.sites ≡ sites }
         ensures parts { result.parts ≡ parts }
+        ensures top { result.top ≡ top }
     {
         Seen {
             id,
             sites,
             parts,
-            ceiling: 0,
+            top,
             named: Named::new(alloc),
             bounds: VTime::zero(sites),
         }
@@ -62,10 +64,7 @@ impl Seen {
         ensures same { OnOk result (IsSamePlace self.old self.new) }
     {
         match next {
-            Record::Lease { ceil } => {
-                self.ceiling = *ceil;
-                Ok(*ceil <= END_OF_TIME)
-            }
+            Record::Lease { ceil } => Ok(*ceil <= END_OF_TIME),
             Record::Prepare {
                 tx,
                 lead,
@@ -115,7 +114,7 @@ impl Seen {
     /// Whether a vote fits.
     fn may_prepare<E>(&self, tx: TxId, vote: &Vote, updates: &[Upd<E>]) -> bool
         requires { IsSound self.now }
-        ensures { result ≡ may_prepare self.now.sites self.now.parts self.now.id (is_some (fates_of self.now tx)) self.now.ceiling tx vote.now updates.now }
+        ensures { result ≡ may_prepare self.now.sites self.now.parts self.now.id (is_some (fates_of self.now tx)) self.now.top tx vote.now updates.now }
     {
         tx.site == self.id.site
             && tx.part >= 1
@@ -129,7 +128,7 @@ impl Seen {
     /// Whether the snapshot, the updates and the time of a vote fit.
     fn is_vote<E>(&self, vote: &Vote, updates: &[Upd<E>]) -> bool
         requires { IsSound self.now }
-        ensures { result ≡ is_vote self.now.sites self.now.parts self.now.id self.now.ceiling vote.now updates.now }
+        ensures { result ≡ is_vote self.now.sites self.now.parts self.now.id self.now.top vote.now updates.now }
     {
         is_vector(&vote.s, self.sites)
             && are_placed_at(updates, self.parts, self.id.part)
@@ -140,9 +139,9 @@ impl Seen {
     fn is_timely(&self, vote: &Vote) -> bool
         requires sound { IsSound self.now }
         requires width { length vote.now.s ≡ self.now.sites }
-        ensures { result ≡ (ltb (entry vote.now.s self.now.id.site) vote.now.time && leb vote.now.time self.now.ceiling) }
+        ensures { result ≡ (ltb (entry vote.now.s self.now.id.site) vote.now.time && leb vote.now.time self.now.top) }
     {
-        vote.s.get(self.id.site) < vote.time && vote.time <= self.ceiling
+        vote.s.get(self.id.site) < vote.time && vote.time <= self.top
     }
 
     /// Whether a commit fits: at the lead, or else at another participant.

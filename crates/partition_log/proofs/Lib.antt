@@ -7,3 +7,4 @@ pub mod Damaged
 pub mod Reopening
 pub mod Sizes
 pub mod Opened
+pub mod Leases

@@ -13,10 +13,10 @@ ghost use Rattle.partition_log.specs.Logs.{HoldsLog, HoldsFront, LeavesFront, Ha
 ghost use Rattle.partition_log.specs.Damage.{AreRecords, IsRefusedAt};
 ghost use Rattle.disk_core.specs.States.{GoesOn, Fails, Rests, Syncs, bytes_of};
 ghost use Rattle.disk_core.specs.Moments.{AtEachMoment};
-ghost use Rattle.crdt_core.specs.Log.{MayFind};
+ghost use Rattle.crdt_core.specs.Log.{MayFind, ceiling};
 
 use crate::append::{append_one, append_two};
-use crate::opening::check_records;
+use crate::opening::{check_records, last_ceiling};
 use crate::payload::{payload_of, payload_of_batch};
 use crdt_core::{Crdt, Message, Record};
 use disk_core::{Disk, Fused};
@@ -146,6 +146,15 @@ impl<C: Crdt, D: Disk + Drop> PartLog<C, D> {
         ensures reads { result ≢ Err OpenFailed }
     {
         check_records::<C>(alloc, self.log.payloads())
+    }
+
+    /// The ceiling of the last Lease among the payloads that were read at opening, in logical ticks, or 0 where there is
+    /// none. What payloads that are no records tell here says nothing. Takes no memory.
+    pub fn last_ceiling(&self) -> u64
+        ensures { (log : List (Record C.Effect)) → AreRecords (codec_of C.spells) (read_at_opening (gates_of self.now)) log
+            → result ≡ ceiling log }
+    {
+        last_ceiling(self.log.payloads())
     }
 
     /// Lets go what was read at opening, with its memory, once its records are taken. The log is as before.

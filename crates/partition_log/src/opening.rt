@@ -1,16 +1,17 @@
 // Reading the payloads of a log as records.
-ghost use Rattle.std.specs.Prelude.{◌≡◌, ◌≢◌, ◌≤◌, ◌+◌, ◌^◌, ℕ, List, true, length, Err, OnOk, IfOk};
+ghost use Rattle.std.specs.Prelude.{◌≡◌, ◌≢◌, ◌≤◌, ◌+◌, ◌^◌, ℕ, List, true, length, map, Err, OnOk, IfOk};
 ghost use Rattle.gate_log.specs.Payloads.{AreWithin};
 ghost use Rattle.gate_log.specs.declared.error.OpenError.TheVariants.{Failed, Damaged};
 ghost use Rattle.crdt_core.specs.declared.record.Record.{Record};
 ghost use Rattle.log_records.specs.declared.error.RecordError.TheVariants.{Damaged as RecordDamaged};
+ghost use Rattle.log_records.specs.Leases.{latest};
 ghost use Rattle.log_records.specs.Whole.{whole_at};
 ghost use Rattle.partition_log.specs.Codec.{codec_of};
 ghost use Rattle.partition_log.specs.Damage.{IsRecord, AreRecords, IsRefusedAt};
 
 use crdt_core::{Crdt, Record};
 use gate_log::{OpenError, Payloads};
-use log_records::{RecordError, take};
+use log_records::{RecordError, lease_of, take};
 use std::alloc::Global;
 
 /// The record that the payload at a place of a log is.
@@ -64,4 +65,17 @@ pub(crate) fn check_records<C: Crdt>(alloc: Global, payloads: Payloads<'_>) -> R
         check_record::<C>(alloc, place, payload)?;
     }
     Ok(())
+}
+
+/// The ceiling of the last payload that is a Lease, or 0 where none is.
+pub(crate) fn last_ceiling(payloads: Payloads<'_>) -> u64
+    ensures { result ≡ latest 0 (map (λ item. item.1) payloads.entry) }
+{
+    let mut ceiling = 0;
+    for (_, payload) in payloads {
+        if let Some(later) = lease_of(payload) {
+            ceiling = later;
+        }
+    }
+    ceiling
 }

@@ -1,5 +1,9 @@
 use Rattle.log_recovery.proofs.Condensing.{told_alike, same_pending, same_holds, same_vote, same_part}
+use Rattle.log_recovery.proofs.CondensedFits.{condensed_fits}
 use Rattle.log_recovery.proofs.laws.law_condense.Goals as goal
+
+pub returns-clause-fits : goal.returns-clause-fits
+returns-clause-fits g c = condensed_fits
 
 pub returns-clause-pending : goal.returns-clause-pending
 returns-clause-pending g c = λ sites parts id log more f none u. same_pending _ _ _ (told_alike sites parts id log more f none) u

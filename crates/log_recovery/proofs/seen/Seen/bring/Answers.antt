@@ -1,4 +1,4 @@
-use Rattle.std.proofs.Common.{◌&&◌, refl, ap, ◌∙◌}
+use Rattle.std.proofs.Common.{◌&&◌, ap, ◌∙◌}
 use Rattle.log_recovery.specs.Fates.{fates_of, are_new, Judges}
 use Rattle.crdt_core.specs.declared.record.Record.TheVariants.{Batch}
 use Rattle.log_recovery.proofs.Choices.{if_ok}
@@ -12,4 +12,4 @@ returns-clause-judges g c = if_ok c.name_all.result _ (λ fits. Judges c.args.se
     c.name_all.ensures.new
 
 pub returns-clause-sees : goal.returns-clause-sees
-returns-clause-sees g c = brings_seen c.args.self.now _ c.name_all.result c.args.message.now c.as_slice.result.now c.as_slice.ensures c.requires.bounds c.if-not-may_bring.ensures refl c.name_all.ensures.new c.name_all.ensures.named c.raise-self.ensures
+returns-clause-sees g c = brings_seen c.args.self.now _ c.name_all.result c.args.message.now c.as_slice.result.now c.as_slice.ensures c.requires.bounds c.if-not-may_bring.ensures c.name_all.ensures.new c.name_all.ensures.named c.raise-self.ensures

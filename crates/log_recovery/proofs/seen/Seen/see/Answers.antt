@@ -11,15 +11,15 @@ pub returns-in_ok-wait-in-Prepare-clause-judges : goal.returns-in_ok-wait-in-Pre
 returns-in_ok-wait-in-Prepare-clause-judges g c =
     let old : Seen = c.args.self.now in
     let vote : Vote = record { lead = c.in-Prepare.lead; time = c.in-Prepare.time; s = c.in-Prepare.s } in
-    λ log s. c.may_prepare-fits.ensures ∙ ap (λ w. may_prepare old.sites old.parts old.id (is_some (fates_of old c.in-Prepare.tx)) old.ceiling c.in-Prepare.tx vote w) c.as_slice.ensures
-    ∙ judged_prepare old log s c.in-Prepare.tx vote c.in-Prepare.updates ∙ ap (λ r. fits_record old.sites old.parts old.id log r) (sym c.in-Prepare.is)
+    λ log s. c.may_prepare-fits.ensures ∙ ap (λ w. may_prepare old.sites old.parts old.id (is_some (fates_of old c.in-Prepare.tx)) old.top c.in-Prepare.tx vote w) c.as_slice.ensures
+    ∙ judged_prepare old log s c.in-Prepare.tx vote c.in-Prepare.updates ∙ ap (λ r. fits_record old.sites old.parts old.id old.top log r) (sym c.in-Prepare.is)
 
 pub returns-in_ok-wait-in-Prepare-clause-sees : goal.returns-in_ok-wait-in-Prepare-clause-sees
 returns-in_ok-wait-in-Prepare-clause-sees g c =
     let old : Seen = c.args.self.now in
     let vote : Vote = record { lead = c.in-Prepare.lead; time = c.in-Prepare.time; s = c.in-Prepare.s } in
-    let new : Seen = record { id = old.id; sites = old.sites; parts = old.parts; ceiling = old.ceiling; named = c.wait.new.self; bounds = old.bounds } in
-    subst (λ r. Sees old r new) (sym c.in-Prepare.is) (sees_prepare old new c.in-Prepare.tx vote c.in-Prepare.updates refl c.in_ok-wait-in-Prepare.ensures refl)
+    let new : Seen = record { id = old.id; sites = old.sites; parts = old.parts; top = old.top; named = c.wait.new.self; bounds = old.bounds } in
+    subst (λ r. Sees old r new) (sym c.in-Prepare.is) (sees_prepare old new c.in-Prepare.tx vote c.in-Prepare.updates c.in_ok-wait-in-Prepare.ensures refl)
 
 pub returns-in_ok-wait-in-Prepare-clause-sound : goal.returns-in_ok-wait-in-Prepare-clause-sound
 returns-in_ok-wait-in-Prepare-clause-sound g c =
@@ -32,5 +32,5 @@ returns-in_ok-wait-in-Prepare-clause-sound g c =
       last = c.requires.last;
       some = c.requires.some;
       bounds = c.requires.bounds;
-      votes = wide_put old.sites (fates_of old) _ c.in-Prepare.tx vote (prepare_wide old.sites old.parts old.id (is_some (fates_of old c.in-Prepare.tx)) old.ceiling c.in-Prepare.tx vote c.as_slice.result.now (sym c.may_prepare-fits.ensures ∙ h)) c.in_ok-wait-in-Prepare.ensures c.requires.votes;
+      votes = wide_put old.sites (fates_of old) _ c.in-Prepare.tx vote (prepare_wide old.sites old.parts old.id (is_some (fates_of old c.in-Prepare.tx)) old.top c.in-Prepare.tx vote c.as_slice.result.now (sym c.may_prepare-fits.ensures ∙ h)) c.in_ok-wait-in-Prepare.ensures c.requires.votes;
     }
