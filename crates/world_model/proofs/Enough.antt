@@ -1,5 +1,5 @@
 -- What a begin depends on is stable where it began.
-use Rattle.std.proofs.Common.{◌≡◌, ℕ, ◌≤◌, List, subst, true}
+use Rattle.std.proofs.Common.{ℕ, ◌≤◌, List, subst}
 use Rattle.site_vector.specs.declared.ids.PartId.{PartId}
 use Rattle.site_vector.specs.declared.ids.TxId.{TxId}
 use Rattle.site_vector.specs.Vector.{entry}

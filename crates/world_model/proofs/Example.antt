@@ -24,7 +24,7 @@ use Rattle.crdt_core.specs.declared.record.Message.{Message}
 use Rattle.crdt_core.specs.declared.record.Record.TheVariants.{Decide}
 use Rattle.crdt_core.specs.Parts.{touches}
 use Rattle.crdt_core.specs.Log.{prepare_time, pending, logged_bound}
-use Rattle.world_model.specs.rules.Event.{Event, Began, Updated, Read, Prepared, Decided, Sent, Took, Reported, Heard, Restarted, Refused, Opened, Cut, Entry, AskTake, AskRead, IsRepeat, TxPending, voted}
+use Rattle.world_model.specs.rules.Event.{led_by, Event, Began, Updated, Read, Prepared, Decided, Sent, Took, Reported, Heard, Restarted, Refused, Opened, Cut, Entry, AskTake, AskRead, IsRepeat, TxPending, voted}
 use Rattle.crdt_core.specs.KindsOf.{Kinds}
 use Rattle.world_model.specs.rules.Partition.{PartState, IsOwnBound, ToldCommitted, fate_of, stable_entry, new_part, done, cut}
 use Rattle.world_model.specs.lines.Places.{IsOther, IsPlace}
@@ -139,7 +139,7 @@ module _ {S E : Type 0} (kinds : Kinds S E) (known : kinds.has CounterPn ≡ tru
   e2 = Updated first snapshot1 counter [] more [] change (kinds.stamp_of change.effect)
 
   abbrev e3 : Event E
-  e3 = Prepared first snapshot1 1 (change ∷ []) 2
+  e3 = Prepared first snapshot1 (led_by 1) (change ∷ []) 2
 
   abbrev e3a : Event E
   e3a = Opened ben

@@ -7,7 +7,7 @@ use Rattle.site_vector.specs.declared.ids.TxId.{TxId}
 use Rattle.crdt_core.specs.declared.kind.Kind.TheVariants.{CounterPn}
 use Rattle.crdt_core.specs.declared.record.Upd.{Upd}
 use Rattle.crdt_core.specs.KindsOf.{Kinds}
-use Rattle.world_model.specs.rules.Event.{Event, Entry, Began, Updated, Prepared, Aborted, Ticked, Refused, AskDecide, AskAbort, IsGone}
+use Rattle.world_model.specs.rules.Event.{led_by, Event, Entry, Began, Updated, Prepared, Aborted, Ticked, Refused, AskDecide, AskAbort, IsGone}
 use Rattle.world_model.specs.lines.Lawful.{IsLawful}
 use Rattle.world_model.specs.rules.Lines.{shown_lines}
 use Rattle.world_model.specs.rules.Partition.{PartState, done, fate_of, ToldAborted}
@@ -50,13 +50,13 @@ module _ {S E : Type 0} (kinds : Kinds S E) where
   e3 = Updated dropped (10 ∷ 0 ∷ []) counter2 [] more [] change2 (kinds.stamp_of change2.effect)
 
   abbrev pub e4 : Event E
-  e4 = Prepared dropped (10 ∷ 0 ∷ []) 1 (change1 ∷ []) 11
+  e4 = Prepared dropped (10 ∷ 0 ∷ []) (led_by 1) (change1 ∷ []) 11
 
   abbrev pub e5 : Event E
   e5 = Ticked 20 20
 
   abbrev pub e6 : Event E
-  e6 = Prepared dropped (10 ∷ 0 ∷ []) 1 (change2 ∷ []) 21
+  e6 = Prepared dropped (10 ∷ 0 ∷ []) (led_by 1) (change2 ∷ []) 21
 
   -- the lead aborts, since nobody asked it to decide
   abbrev pub e7 : Event E
@@ -80,7 +80,7 @@ module _ {S E : Type 0} (kinds : Kinds S E) where
   e12 = Updated undone (12 ∷ 0 ∷ []) counter1 [] more [] change3 (kinds.stamp_of change3.effect)
 
   abbrev pub e13 : Event E
-  e13 = Prepared undone (12 ∷ 0 ∷ []) 1 (change3 ∷ []) 13
+  e13 = Prepared undone (12 ∷ 0 ∷ []) (led_by 1) (change3 ∷ []) 13
 
   -- on the word of its session
   abbrev pub e14 : Event E

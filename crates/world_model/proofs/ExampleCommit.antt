@@ -19,7 +19,7 @@ use Rattle.crdt_core.specs.Folds.{state_read}
 use Rattle.crdt_core.specs.Log.{prepare_time, pending}
 use Rattle.crdt_core.specs.Orders.{pending_cmp}
 use Rattle.crdt_core.specs.Parts.{touches}
-use Rattle.world_model.specs.rules.Event.{Event, Entry, Began, Updated, Read, Prepared, Decided, Finished, Ticked, Refused, Opened, AskRead, AskUpdate, AskPrepare, AskDecide, ClockBehind, TxPending, HasNoRoom, voted}
+use Rattle.world_model.specs.rules.Event.{led_by, Event, Entry, Began, Updated, Read, Prepared, Decided, Finished, Ticked, Refused, Opened, AskRead, AskUpdate, AskPrepare, AskDecide, ClockBehind, TxPending, HasNoRoom, voted}
 use Rattle.world_model.specs.lines.Lawful.{IsLawful}
 use Rattle.world_model.specs.rules.Lines.{shown_lines}
 use Rattle.world_model.specs.rules.Partition.{PartState, new_part, done}
@@ -81,17 +81,17 @@ module _ {S E : Type 0} (kinds : Kinds S E) where
 
   -- the lead votes first
   abbrev pub e7 : Event E
-  e7 = Prepared both (1 ∷ 0 ∷ []) 1 (change1 ∷ change2 ∷ []) 2
+  e7 = Prepared both (1 ∷ 0 ∷ []) (led_by 1) (change1 ∷ change2 ∷ []) 2
 
   abbrev pub e8 : Event E
-  e8 = Refused (AskPrepare both (1 ∷ 0 ∷ []) 1 (change3 ∷ [])) (ClockBehind 0)
+  e8 = Refused (AskPrepare both (1 ∷ 0 ∷ []) (led_by 1) (change3 ∷ [])) (ClockBehind 0)
 
   abbrev pub e9 : Event E
   e9 = Ticked 5 5
 
   -- the greatest vote
   abbrev pub e10 : Event E
-  e10 = Prepared both (1 ∷ 0 ∷ []) 1 (change3 ∷ []) 6
+  e10 = Prepared both (1 ∷ 0 ∷ []) (led_by 1) (change3 ∷ []) 6
 
   abbrev pub e11 : Event E
   e11 = Opened ben

@@ -11,7 +11,7 @@ use Rattle.crdt_core.specs.declared.record.Upd.{Upd}
 use Rattle.crdt_core.specs.declared.record.Message.{Message}
 use Rattle.crdt_core.specs.declared.record.Record.TheVariants.{Prepare}
 use Rattle.crdt_core.specs.KindsOf.{Kinds}
-use Rattle.world_model.specs.rules.Event.{Event, Entry, Began, Updated, Prepared, Aborted, Sent, Crashed, RestartCut, Restarted, Refused, Cut, AskReport, IsDown}
+use Rattle.world_model.specs.rules.Event.{led_by, Event, Entry, Began, Updated, Prepared, Aborted, Sent, Crashed, RestartCut, Restarted, Refused, Cut, AskReport, IsDown}
 use Rattle.world_model.specs.lines.Lawful.{IsLawful}
 use Rattle.world_model.specs.rules.Lines.{shown_lines}
 use Rattle.world_model.specs.rules.Partition.{PartState, new_part, done, cut, down}
@@ -54,7 +54,7 @@ module _ {S E : Type 0} (kinds : Kinds S E) where
 
   -- a vote that a crash cuts off while another transaction is pending
   abbrev pub e3 : Event E
-  e3 = Cut (Prepared torn (3 ∷ 0 ∷ []) 1 (change ∷ []) 4)
+  e3 = Cut (Prepared torn (3 ∷ 0 ∷ []) (led_by 1) (change ∷ []) 4)
 
   abbrev pub e4 : Event E
   e4 = Refused AskReport IsDown
@@ -118,7 +118,7 @@ module _ {S E : Type 0} (kinds : Kinds S E) where
   p2 = put p1 here1 (done (p1 here1) e2)
 
   abbrev pub p3 : PartId → PartState E
-  p3 = put p2 here1 (cut (p2 here1) (Prepared torn (3 ∷ 0 ∷ []) 1 (change ∷ []) 4))
+  p3 = put p2 here1 (cut (p2 here1) (Prepared torn (3 ∷ 0 ∷ []) (led_by 1) (change ∷ []) 4))
 
   abbrev pub p4 : PartId → PartState E
   p4 = p3
@@ -160,7 +160,7 @@ module _ {S E : Type 0} (kinds : Kinds S E) (has : HaveBoth kinds) where
       (record { early = untried (r1 kinds) torn refl; number = refl })
 
   pub run3 : IsWorldRun kinds 2 2 (r3 kinds) (p3 kinds)
-  run3 = go kinds (r2 kinds) (p2 kinds) here1 (e3 kinds) (cut (p2 kinds here1) (Prepared torn (3 ∷ 0 ∷ []) 1 ((change kinds) ∷ []) 4)) run2 place_here1
+  run3 = go kinds (r2 kinds) (p2 kinds) here1 (e3 kinds) (cut (p2 kinds here1) (Prepared torn (3 ∷ 0 ∷ []) (led_by 1) ((change kinds) ∷ []) 4)) run2 place_here1
       (record { fresh = refl; after_lead = λ ne. absurd (ne refl); takes = refl; snapshot = refl; lead = refl; changes = refl })
       tt
       (refl, (lit≤ tt, refl, lit< tt), refl)

@@ -15,7 +15,7 @@ use Rattle.crdt_core.specs.KindsOf.{Kinds}
 use Rattle.crdt_core.specs.Folds.{state_read}
 use Rattle.crdt_core.specs.Log.{end_of_time}
 use Rattle.crdt_core.specs.Parts.{touches}
-use Rattle.world_model.specs.rules.Event.{Event, Entry, Began, Updated, Read, Ticked, Sent, Took, Reported, Heard, Refused, AskBegin, AskPrepare, AskTake, StableBehind, ClockAtEnd, HasGap, IsRepeat, sent_count, report_count}
+use Rattle.world_model.specs.rules.Event.{led_by, Event, Entry, Began, Updated, Read, Ticked, Sent, Took, Reported, Heard, Refused, AskBegin, AskPrepare, AskTake, StableBehind, ClockAtEnd, HasGap, IsRepeat, sent_count, report_count}
 use Rattle.world_model.specs.lines.Lawful.{IsLawful}
 use Rattle.world_model.specs.rules.Lines.{shown_lines}
 use Rattle.world_model.specs.rules.Partition.{PartState, done}
@@ -108,7 +108,7 @@ module _ {S E : Type 0} (kinds : Kinds S E) where
 
   -- no time is left for a vote, and none for a begin
   abbrev pub e15 : Event E
-  e15 = Refused (AskPrepare moved (6 ∷ 1 ∷ []) 2 (change4 ∷ [])) ClockAtEnd
+  e15 = Refused (AskPrepare moved (6 ∷ 1 ∷ []) (led_by 2) (change4 ∷ [])) ClockAtEnd
 
   abbrev pub e16 : Event E
   e16 = Refused (AskBegin cal (record { past = none; stable = false })) ClockAtEnd

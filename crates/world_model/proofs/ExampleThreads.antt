@@ -10,7 +10,7 @@ use Rattle.site_vector.specs.Order.{same_part_is, same_tx_is}
 use Rattle.crdt_core.specs.declared.kind.Kind.TheVariants.{CounterPn}
 use Rattle.crdt_core.specs.declared.record.Upd.{Upd}
 use Rattle.crdt_core.specs.KindsOf.{Kinds}
-use Rattle.world_model.specs.rules.Event.{Began, Updated, Prepared, Decided, Finished, Aborted, Ticked, Cut, voted, attempt}
+use Rattle.world_model.specs.rules.Event.{led_by, Began, Updated, Prepared, Decided, Finished, Aborted, Ticked, Cut, voted, attempt}
 use Rattle.world_model.specs.lines.Lawful.{IsLawful}
 use Rattle.world_model.specs.lines.Places.{IsPlace}
 use Rattle.world_model.specs.rules.Lines.{shown_lines}
@@ -143,7 +143,7 @@ module _ {S E : Type 0} (kinds : Kinds S E) where
   a2 = record { at = here1; event = Updated first (1 ∷ 0 ∷ []) counter1 [] more [] change1 (kinds.stamp_of change1.effect); by = 1; stamp = 2; seen = two 1 0 0 }
 
   abbrev a3 : Mark E
-  a3 = record { at = here1; event = Prepared first (1 ∷ 0 ∷ []) 1 (change1 ∷ []) 2; by = 1; stamp = 4; seen = two 2 2 0 }
+  a3 = record { at = here1; event = Prepared first (1 ∷ 0 ∷ []) (led_by 1) (change1 ∷ []) 2; by = 1; stamp = 4; seen = two 2 2 0 }
 
   -- it has seen both votes
   abbrev a4 : Mark E
@@ -157,7 +157,7 @@ module _ {S E : Type 0} (kinds : Kinds S E) where
   a6 = record { at = here1; event = Updated second (7 ∷ 0 ∷ []) counter1 [] more [] change3 (kinds.stamp_of change3.effect); by = 2; stamp = 9; seen = two 5 5 0 }
 
   abbrev a7 : Mark E
-  a7 = record { at = here1; event = Prepared second (7 ∷ 0 ∷ []) 1 (change3 ∷ []) 10; by = 2; stamp = 11; seen = two 6 6 0 }
+  a7 = record { at = here1; event = Prepared second (7 ∷ 0 ∷ []) (led_by 1) (change3 ∷ []) 10; by = 2; stamp = 11; seen = two 6 6 0 }
 
   -- the first caller aborts it at its lead: anybody may
   abbrev a8 : Mark E
@@ -175,7 +175,7 @@ module _ {S E : Type 0} (kinds : Kinds S E) where
   b2 = record { at = here2; event = Updated first (1 ∷ 0 ∷ []) counter2 [] more [] change2 (kinds.stamp_of change2.effect); by = 1; stamp = 3; seen = two 2 1 0 }
 
   abbrev b3 : Mark E
-  b3 = record { at = here2; event = Prepared first (1 ∷ 0 ∷ []) 1 (change2 ∷ []) 6; by = 1; stamp = 5; seen = two 3 2 0 }
+  b3 = record { at = here2; event = Prepared first (1 ∷ 0 ∷ []) (led_by 1) (change2 ∷ []) 6; by = 1; stamp = 5; seen = two 3 2 0 }
 
   abbrev b4 : Mark E
   b4 = record { at = here2; event = Finished first (6 ∷ 0 ∷ []); by = 1; stamp = 7; seen = two 4 3 0 }
@@ -188,7 +188,7 @@ module _ {S E : Type 0} (kinds : Kinds S E) where
 
   -- stamped as the abort, which its caller has not seen
   abbrev b7 : Mark E
-  b7 = record { at = here2; event = Prepared second (7 ∷ 0 ∷ []) 1 (change4 ∷ []) 8; by = 2; stamp = 12; seen = two 7 6 0 }
+  b7 = record { at = here2; event = Prepared second (7 ∷ 0 ∷ []) (led_by 1) (change4 ∷ []) 8; by = 2; stamp = 12; seen = two 7 6 0 }
 
   -- on the word of the lead, which is down by now
   abbrev b8 : Mark E

@@ -10,7 +10,7 @@ use Rattle.crdt_core.specs.declared.record.Upd.{Upd}
 use Rattle.crdt_core.specs.declared.record.Record.{Record}
 use Rattle.crdt_core.specs.declared.record.Record.TheVariants.{Lease, Prepare, Decide, Finish, Abort, Batch}
 use Rattle.crdt_core.specs.Log.{prepared, prepare_time, prepared_changes, decided, committed, committed_at, aborted, pending, last_decided}
-use Rattle.world_model.specs.rules.Event.{Event, Prepared, Aborted, Entry, attempt, is_prepare, is_decide, is_abort, is_own_abort, shows_decided, tried, voted, decide_tried, gave_up, was_aborted, is_decided, time_of}
+use Rattle.world_model.specs.rules.Event.{Ballot, led_by, Event, Prepared, Aborted, Entry, attempt, is_prepare, is_decide, is_abort, is_own_abort, shows_decided, tried, voted, decide_tried, gave_up, was_aborted, is_decided, time_of}
 use Rattle.world_model.proofs.Runs.{vote}
 use Rattle.world_model.specs.rules.Partition.{PartState, Finds, ToldAborted, fate_of}
 use Rattle.world_model.specs.rules.Plan.{Plan, takes_part, vector_at, commit_vector, IsAllowed, MayPrepare, MayAbort, TellsAborted}
@@ -118,7 +118,7 @@ module _ {E : Type 0} where
       (λ (u : p.up ≡ false). absurd (cc (rw u at h)))
       (cases_Bool p.up)
 
-  may_prepare : (plan : Plan E) (run : List (Entry E)) (before : PartId → PartState E) (at : PartId) (a : Event E) (t : TxId) → IsAllowed plan run before at a → is_prepare a t ≡ true → (s : List ℕ) × (l : ℕ) × (w : List (Upd E)) × MayPrepare plan run at t s l w
+  may_prepare : (plan : Plan E) (run : List (Entry E)) (before : PartId → PartState E) (at : PartId) (a : Event E) (t : TxId) → IsAllowed plan run before at a → is_prepare a t ≡ true → (s : List ℕ) × (l : Ballot) × (w : List (Upd E)) × MayPrepare plan run at t s l w
   may_prepare plan run before at (Prepared u s l w n) t al h = (s, l, w, subst (λ x. MayPrepare plan run at x s l w) (same_tx_is u t h) al)
   may_prepare plan run before at a t al h = off h
 
@@ -177,11 +177,11 @@ module _ {E : Type 0} where
         go old (Abort u) b ih k = or_right _ _ (ih k)
 
     -- a prepare that was tried is not prepared now
-    pub not_again : (q : PartId) (u t : TxId) (s : List ℕ) (l : ℕ) (w : List (Upd E)) → q ≡ at → MayPrepare plan run at u s l w → tried run t q ≡ true → same_tx u t ≡ false
+    pub not_again : (q : PartId) (u t : TxId) (s : List ℕ) (l : Ballot) (w : List (Upd E)) → q ≡ at → MayPrepare plan run at u s l w → tried run t q ≡ true → same_tx u t ≡ false
     not_again q u t s l w e m h = false_from_ne_true _ (λ k. clash h (subst₂ (λ x y. tried run x y ≡ false) (same_tx_is u t k) (sym e) m.fresh))
 
     same_time : (q : PartId) (old : List (Record E)) (r : Record E) (t : TxId) → Because plan run before (after q).up at event q old r → voted run t q ≡ true → prepare_time (r ∷ old) t ≡ prepare_time old t
-    same_time q old (Prepare u l n s w) t b h = cond-false (same_tx u t) n (prepare_time old t) (not_again q u t s l w b.0 b.3 (voted_tried run t q h))
+    same_time q old (Prepare u l n s w) t b h = cond-false (same_tx u t) n (prepare_time old t) (not_again q u t s (led_by l) w b.0 b.3 (voted_tried run t q h))
     same_time q old (Lease n) t b h = refl
     same_time q old (Batch x) t b h = refl
     same_time q old (Decide u c) t b h = refl

@@ -3,7 +3,7 @@ use Rattle.std.proofs.Common.{◌≡◌, ◌≢◌, ⊎_elim, ℕ, zero, suc, �
 use Rattle.std.specs.Prelude.{⊤, ◌==◌, slice_index, slice_set, replicate, filter}
 use Rattle.std.specs.List.{list_all}
 use Rattle.std.proofs.lemmas.Slice.Eq.{bytes_eq-Decides}
-use Rattle.std.proofs.lemmas.Bool.{cases_Bool, cases_eq, or_left, or_right, or_cases, and_from, and_parts, cond-true, cond-false, cond_both, eqb-true, eq-eqb, leb-true, le-leb, ltb-true, lt-ltb, not-true, false_from_ne_true}
+use Rattle.std.proofs.lemmas.Bool.{cases_Bool, cases_eq, or_left, or_right, or_cases, and_from, and_parts, cond-true, cond-false, cond_both, eqb-true, eq-eqb, leb-true, leb-false, le-leb, ltb-true, lt-ltb, not-true, false_from_ne_true}
 use Rattle.site_vector.specs.declared.ids.PartId.{PartId}
 use Rattle.site_vector.specs.declared.ids.TxId.{TxId}
 use Rattle.site_vector.specs.Ids.{same_tx}
@@ -17,9 +17,9 @@ use Rattle.crdt_core.specs.declared.record.Record.{Record}
 use Rattle.crdt_core.specs.declared.record.Record.TheVariants.{Lease, Prepare, Decide, Finish, Abort, Batch}
 use Rattle.crdt_core.specs.Log.{end_of_time, ceiling, prepared, prepare_time, pending, taken, taken_at, logged_bound, grown, MayFind}
 use Rattle.crdt_core.specs.Parts.{lists, vector_in}
-use Rattle.crdt_core.specs.Fitting.{is_vector, are_placed_at, fits_commit, fits_part, are_apart, fits_message, fits_record, unfit_next, unfit}
+use Rattle.crdt_core.specs.Fitting.{is_vector, are_placed_at, fits_commit, fits_part, are_apart, fits_message, fits_record, unfit_next, unfit_under, unfit}
 use Rattle.crdt_core.specs.Log.{is_named_in, prepared_lead, prepared_snapshot}
-use Rattle.world_model.specs.rules.Event.{Event, Ticked, Began, Updated, Read, Prepared, Decided, Finished, Aborted, Sent, Took, Reported, Heard, Crashed, RestartCut, Restarted, Refused, Opened, Cut, Entry, attempt, is_prepare, time_shown, voted, is_decided, time_of, sent_count}
+use Rattle.world_model.specs.rules.Event.{Ballot, Event, Ticked, Began, Updated, Read, Prepared, Decided, Finished, Aborted, Sent, Took, Reported, Heard, Crashed, RestartCut, Restarted, Refused, Opened, Cut, Entry, attempt, is_prepare, time_shown, voted, is_decided, time_of, sent_count}
 use Rattle.world_model.proofs.Runs.{sent, IsRun}
 use Rattle.crdt_core.specs.KindsOf.{Kinds}
 use Rattle.world_model.specs.rules.Partition.{PartState, Finds, batch_of, records, done, MayDo, PartStep}
@@ -76,26 +76,62 @@ pub record PlanFits {E : Type 0} (plan : Plan E) : Type 0 where
   pub lead : (t : TxId) (q : PartId) → takes_part plan t q ≡ true → 1 ≤ q.part → q.part ≤ plan.parts → (1 ≤ (plan.lead t).part) × ((plan.lead t).part ≤ q.part)
 
 module _ {E : Type 0} (plan : Plan E) (id : PartId) where
-  -- a Prepare has the lead and the snapshot that its transaction has
-  abbrev pub IsOwn : Record E → Type 0
-  IsOwn (Prepare t l n s w) = (l ≡ (plan.lead t).part) × (s ≡ plan.snapshot t)
-  IsOwn other = ⊤
+  -- a lease isn't below the one before it, and a Prepare has the lead and the snapshot that its transaction has
+  abbrev pub IsOwn : List (Record E) → Record E → Type 0
+  IsOwn log (Lease n) = ceiling log ≤ n
+  IsOwn log (Prepare t l n s w) = (l ≡ (plan.lead t).part) × (s ≡ plan.snapshot t)
+  IsOwn log other = ⊤
 
+  -- each record fits under the ceiling that the log had before it
   abbrev pub AreGood : List (Record E) → Type 0
   AreGood [] = ⊤
-  AreGood (r ∷ log) = (fits_record plan.sites plan.parts id log r ≡ true) × IsOwn r × AreGood log
+  AreGood (r ∷ log) = (fits_record plan.sites plan.parts id (ceiling log) log r ≡ true) × IsOwn log r × AreGood log
 
   abbrev GoodAfter : List (Record E) → List (Record E) → Type 0
   GoodAfter log [] = ⊤
-  GoodAfter log (r ∷ rs) = (fits_record plan.sites plan.parts id log r ≡ true) × IsOwn r × GoodAfter (r ∷ log) rs
+  GoodAfter log (r ∷ rs) = (fits_record plan.sites plan.parts id (ceiling log) log r ≡ true) × IsOwn log r × GoodAfter (r ∷ log) rs
 
   image_good : (log rs m : List (Record E)) → AreGood log → GoodAfter log rs → MayFind log rs m → AreGood m
   image_good log [] m g a i = subst AreGood (sym i) g
   image_good log (r ∷ rs) m g a i = ⊎_elim (λ (e : m ≡ log). subst AreGood (sym e) g) (λ (x : MayFind (r ∷ log) rs m). image_good (r ∷ log) rs m (a.0, a.1, g) a.2 x) i
 
+  -- what fits under a ceiling fits under a greater one
+  fits_more : (top : ℕ) (log : List (Record E)) (r : Record E) → ceiling log ≤ top → fits_record plan.sites plan.parts id (ceiling log) log r ≡ true → fits_record plan.sites plan.parts id top log r ≡ true
+  fits_more top log (Prepare t l n s w) h x =
+      let a = and_parts (t.site == id.site) _ x in
+      let b = and_parts (leb 1 t.part) _ a.1 in
+      let c = and_parts (leb t.part plan.parts) _ b.1 in
+      let d = and_parts (not (is_named_in log t)) _ c.1 in
+      let e = and_parts (leb 1 l) _ d.1 in
+      let f = and_parts (leb l id.part) _ e.1 in
+      let g = and_parts (is_vector plan.sites s) _ f.1 in
+      let i = and_parts (are_placed_at plan.parts id.part w) _ g.1 in
+      let j = and_parts (ltb (entry s id.site) n) (leb n (ceiling log)) i.1 in
+      let last : leb n top ≡ true = le-leb n top (le_trans (leb-true n (ceiling log) j.1) h) in
+      and_from _ _ a.0 (and_from _ _ b.0 (and_from _ _ c.0 (and_from _ _ d.0 (and_from _ _ e.0 (and_from _ _ f.0 (and_from _ _ g.0 (and_from _ _ i.0 (and_from _ _ j.0 last))))))))
+  fits_more top log (Lease n) h f = f
+  fits_more top log (Decide t c) h f = f
+  fits_more top log (Finish t c) h f = f
+  fits_more top log (Abort t) h f = f
+  fits_more top log (Batch m) h f = f
+
+  older : (top : ℕ) (log : List (Record E)) (r : Record E) → IsOwn log r → ceiling (r ∷ log) ≤ top → ceiling log ≤ top
+  older top log (Lease n) own h = le_trans own h
+  older top log (Prepare t l n s w) own h = h
+  older top log (Decide t c) own h = h
+  older top log (Finish t c) own h = h
+  older top log (Abort t) own h = h
+  older top log (Batch m) own h = h
+
+  -- leases rise, so each record fits under the last one
+  good_under : (top : ℕ) (log : List (Record E)) → AreGood log → ceiling log ≤ top → unfit_under plan.sites plan.parts id top log ≡ None
+  good_under top [] g h = refl
+  good_under top (r ∷ log) g h =
+      let under = older top log r g.1 h in
+      ap (λ o. unfit_next o (fits_record plan.sites plan.parts id top log r) (length log)) (good_under top log g.2 under) ∙ cond-true _ None (Some (length log)) (fits_more top log r under g.0)
+
   pub good_unfit : (log : List (Record E)) → AreGood log → unfit plan.sites plan.parts id log ≡ None
-  good_unfit [] g = refl
-  good_unfit (r ∷ log) g = ap (λ o. unfit_next o (fits_record plan.sites plan.parts id log r) (length log)) (good_unfit log g.2) ∙ cond-true _ None (Some (length log)) g.0
+  good_unfit log g = good_under (ceiling log) log g (le_refl (ceiling log))
 
   pub lead_good : (log : List (Record E)) (t : TxId) → AreGood log → prepared log t ≡ true → (prepared_lead log t ≡ (plan.lead t).part) × (prepared_snapshot log t ≡ plan.snapshot t)
   lead_good [] t g h = off h
@@ -143,7 +179,7 @@ module _ {E : Type 0} (plan : Plan E) (id : PartId) where
     pub apart : m.from ≡ id.site → ⊥
     pub parts : list_all (fits_part plan.sites plan.parts m) m.parts ≡ true
 
-  batch_fits : (log : List (Record E)) (m : Message E) → fits_record plan.sites plan.parts id log (Batch m) ≡ true → IsMessageOf m
+  batch_fits : (log : List (Record E)) (m : Message E) → fits_record plan.sites plan.parts id (ceiling log) log (Batch m) ≡ true → IsMessageOf m
   batch_fits log m h =
       let a = and_parts (fits_message plan.sites plan.parts id m) _ h in
       let b0 = and_parts (not (m.from == id.site)) _ a.0 in
@@ -276,13 +312,20 @@ module _ {E S : Type 0} (kinds : Kinds S E) (plan : Plan E) (pf : PlanFits plan)
     good_log : AreGood plan at log
     good_log = g.logs at log (image_log (before at))
 
-    lease_good : (n : ℕ) → GoodAfter plan at log (lease_for log n)
-    lease_good n = cond_both (leb n (ceiling log)) [] (Lease (min (n + 1000) end_of_time) ∷ []) (λ rs. GoodAfter plan at log rs) (λ e. tt) (λ e. (le-leb (min (n + 1000) end_of_time) end_of_time (omega arith), tt, tt))
+    capped : ceiling log ≤ end_of_time
+    capped = (k.leases.clock at).capped log (image_log (before at))
 
-    unnamed : (t : TxId) (s : List ℕ) (l : ℕ) (w : List (Upd E)) → MayPrepare plan run at t s l w → is_named_in log t ≡ false
+    -- a lease that is due isn't below the one before it
+    higher : (n : ℕ) → leb n (ceiling log) ≡ false → ceiling log ≤ min (n + 1000) end_of_time
+    higher n e = let a = leb-false n (ceiling log) e in let b = capped in omega (arith, a, b)
+
+    lease_good : (n : ℕ) → GoodAfter plan at log (lease_for log n)
+    lease_good n = cond_both (leb n (ceiling log)) [] (Lease (min (n + 1000) end_of_time) ∷ []) (λ rs. GoodAfter plan at log rs) (λ e. tt) (λ e. (le-leb (min (n + 1000) end_of_time) end_of_time (omega arith), higher n e, tt))
+
+    unnamed : (t : TxId) (s : List ℕ) (l : Ballot) (w : List (Upd E)) → MayPrepare plan run at t s l w → is_named_in log t ≡ false
     unnamed t s l w al = false_from_ne_true _ (λ h. clash (k.fate.was_tried at log t (image_log (before at)) (named_good plan at log t good_log h (sym (plan.at_home t at al.takes)))) al.fresh)
 
-    prepare_fits : (old : List (Record E)) (t : TxId) (s : List ℕ) (l n : ℕ) (w : List (Upd E)) → MayPrepare plan run at t s l w → is_named_in old t ≡ false → entry s at.site < n → n ≤ ceiling old → fits_record plan.sites plan.parts at old (Prepare t l n s w) ≡ true
+    prepare_fits : (old : List (Record E)) (t : TxId) (s : List ℕ) (l : Ballot) (n : ℕ) (w : List (Upd E)) → MayPrepare plan run at t s l w → is_named_in old t ≡ false → entry s at.site < n → n ≤ ceiling old → fits_record plan.sites plan.parts at (ceiling old) old (Prepare t l.lead n s w) ≡ true
     prepare_fits old t s l n w al new low top =
         let part = pf.part t at al.takes in
         let lead = pf.lead t at al.takes place.least_part place.most_part in
@@ -296,7 +339,7 @@ module _ {E S : Type 0} (kinds : Kinds S E) (plan : Plan E) (pf : PlanFits plan)
         (and_from _ _ (ap (are_placed_at plan.parts at.part) al.changes ∙ pf.stand t at)
         (and_from _ _ (lt-ltb (entry s at.site) n low) (le-leb n (ceiling old) top)))))))))
 
-    prepare_good : (t : TxId) (s : List ℕ) (l n : ℕ) (w : List (Upd E)) → MayPrepare plan run at t s l w → MayDo kinds plan.sites plan.parts at (before at) (Prepared t s l w n) → GoodAfter plan at log (lease_for log n ++ Prepare t l n s w ∷ [])
+    prepare_good : (t : TxId) (s : List ℕ) (l : Ballot) (n : ℕ) (w : List (Upd E)) → MayPrepare plan run at t s l w → MayDo kinds plan.sites plan.parts at (before at) (Prepared t s l w n) → GoodAfter plan at log (lease_for log n ++ Prepare t l.lead n s w ∷ [])
     prepare_good t s l n w al m =
         let new = unnamed t s l w al in
         let clock = m.0 in
@@ -307,11 +350,11 @@ module _ {E S : Type 0} (kinds : Kinds S E) (plan : Plan E) (pf : PlanFits plan)
         let top = done_ceil log n intime in
         go (leb n (ceiling log)) refl new low top
       where
-        go : (b : Bool) → leb n (ceiling log) ≡ b → is_named_in log t ≡ false → entry s at.site < n → n ≤ ceiling (grown log (lease_for log n)) → GoodAfter plan at log (cond b [] (Lease (min (n + 1000) end_of_time) ∷ []) ++ Prepare t l n s w ∷ [])
+        go : (b : Bool) → leb n (ceiling log) ≡ b → is_named_in log t ≡ false → entry s at.site < n → n ≤ ceiling (grown log (lease_for log n)) → GoodAfter plan at log (cond b [] (Lease (min (n + 1000) end_of_time) ∷ []) ++ Prepare t l.lead n s w ∷ [])
         go true e new low top = (prepare_fits log t s l n w al new low (leb-true n (ceiling log) e), (al.lead, al.snapshot), tt)
         go false e new low top = (
           le-leb (min (n + 1000) end_of_time) end_of_time (omega arith),
-          tt,
+          higher n e,
           (prepare_fits (Lease (min (n + 1000) end_of_time) ∷ log) t s l n w al new low (subst (λ rs. n ≤ ceiling (grown log rs)) (cond-false _ [] (Lease (min (n + 1000) end_of_time) ∷ []) e) top), (al.lead, al.snapshot), tt),
         )
 
@@ -494,7 +537,7 @@ module _ {E S : Type 0} (kinds : Kinds S E) (plan : Plan E) (pf : PlanFits plan)
     bounds_here w (Took number m) al st u j o = took_bound w number m al st j o
     bounds_here w (Ticked r n) al st u j o = same_bound j st.0 o (ap (λ p. logged_bound p.log j) st.2 ∙ leased_bound log n j) (ap (λ p. p.bounds) st.2)
     bounds_here w (Began who dep t s) al st u j o = same_bound j st.0 o (ap (λ p. logged_bound p.log j) st.2 ∙ leased_bound log t.time j) (ap (λ p. p.bounds) st.2)
-    bounds_here w (Prepared t s l c n) al st u j o = same_bound j st.0 o (ap (λ p. logged_bound p.log j) st.2 ∙ ap (λ x. logged_bound x j) (grown_last log (lease_for log n) (Prepare t l n s c)) ∙ leased_bound log n j) (ap (λ p. p.bounds) st.2)
+    bounds_here w (Prepared t s l c n) al st u j o = same_bound j st.0 o (ap (λ p. logged_bound p.log j) st.2 ∙ ap (λ x. logged_bound x j) (grown_last log (lease_for log n) (Prepare t l.lead n s c)) ∙ leased_bound log n j) (ap (λ p. p.bounds) st.2)
     bounds_here w (Decided t c) al st u j o = same_bound j st.0 o (ap (λ p. logged_bound p.log j) st.2 ∙ if_bound log (pending log t) (Decide t c) j refl) (ap (λ p. p.bounds) st.2)
     bounds_here w (Finished t c) al st u j o = same_bound j st.0 o (ap (λ p. logged_bound p.log j) st.2 ∙ if_bound log (pending log t) (Finish t c) j refl) (ap (λ p. p.bounds) st.2)
     bounds_here w (Aborted t own) al st u j o = same_bound j st.0 o (ap (λ p. logged_bound p.log j) st.2) (ap (λ p. p.bounds) st.2)

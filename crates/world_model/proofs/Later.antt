@@ -8,7 +8,7 @@ use Rattle.site_vector.specs.Vector.{entry}
 use Rattle.crdt_core.specs.declared.record.Record.{Record}
 use Rattle.crdt_core.specs.declared.record.Record.TheVariants.{Lease, Prepare, Decide, Finish, Abort, Batch}
 use Rattle.crdt_core.specs.Log.{committed_at, prepared, prepare_time, committed, aborted, pending, last_decided}
-use Rattle.world_model.specs.rules.Event.{Event, Entry, is_prepare, tried, decide_tried, gave_up, is_decided, time_of, time_shown}
+use Rattle.world_model.specs.rules.Event.{led_by, Event, Entry, is_prepare, tried, decide_tried, gave_up, is_decided, time_of, time_shown}
 use Rattle.world_model.proofs.Runs.{vote}
 use Rattle.world_model.specs.rules.Partition.{PartState, Finds}
 use Rattle.world_model.specs.rules.Plan.{Plan, takes_part, vector_at, commit_vector}
@@ -103,7 +103,7 @@ module _ {E : Type 0} where
     next = (record { at = at; event = event }) ∷ run
 
     time_kept : (q : PartId) (old : List (Record E)) (r : Record E) (t : TxId) → Because plan run before (after q).up at event q old r → tried run t q ≡ true → prepare_time (r ∷ old) t ≡ prepare_time old t
-    time_kept q old (Prepare u l n s w) t b h = cond-false (same_tx u t) n (prepare_time old t) (not_again plan run before after at event mv f q u t s l w b.0 b.3 h)
+    time_kept q old (Prepare u l n s w) t b h = cond-false (same_tx u t) n (prepare_time old t) (not_again plan run before after at event mv f q u t s (led_by l) w b.0 b.3 h)
     time_kept q old (Lease n) t b h = refl
     time_kept q old (Decide u c) t b h = refl
     time_kept q old (Finish u c) t b h = refl

@@ -144,7 +144,7 @@ module _ {E : Type 0} where
     turns p last skipped (Prepared t s l w n) c m =
         let e = m.1 in
         let top = subst (λ x. x ≤ end_of_time) (sym e) (one_more p.now end_of_time m.2) in
-        drawn p last skipped n (Prepared t s l w n) c (omega arith) top refl refl refl refl refl (λ x i. image_ceil_prepare p.log t l n s w x i) (done_ceil_prepare p.log t l n s w top)
+        drawn p last skipped n (Prepared t s l w n) c (omega arith) top refl refl refl refl refl (λ x i. image_ceil_prepare p.log t l.lead n s w x i) (done_ceil_prepare p.log t l.lead n s w top)
     turns p last skipped (Updated t s o own op read u stamp) c m = still p last skipped (Updated t s o own op read u stamp) c refl refl refl refl refl (λ x i. ap ceiling i)
     turns p last skipped (Read t s o own read value) c m = still p last skipped (Read t s o own read value) c refl refl refl refl refl (λ x i. ap ceiling i)
     turns p last skipped (Decided t v) c m = still p last skipped (Decided t v) c refl refl refl refl refl (λ x i. quiet_if (pending p.log t) p.log (Decide t v) x refl i)

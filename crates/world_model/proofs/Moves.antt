@@ -13,7 +13,7 @@ use Rattle.crdt_core.specs.declared.record.Message.{Message}
 use Rattle.crdt_core.specs.declared.record.Record.{Record}
 use Rattle.crdt_core.specs.declared.record.Record.TheVariants.{Lease, Prepare, Decide, Finish, Abort, Batch}
 use Rattle.crdt_core.specs.Log.{end_of_time, prepared, prepare_time, prepared_changes, decided, committed, committed_at, aborted, pending, last_decided, taken, taken_at, taken_changes, logged_bound, ceiling, grown, MayFind}
-use Rattle.world_model.specs.rules.Event.{Ask, Refusal, Refused, Event, Ticked, Began, Updated, Read, Prepared, Decided, Finished, Aborted, Sent, Took, Reported, Heard, Crashed, RestartCut, Restarted, Opened, Cut, Entry, attempt, is_prepare, is_decide, is_abort, shows_decided, time_shown}
+use Rattle.world_model.specs.rules.Event.{led_by, Ask, Refusal, Refused, Event, Ticked, Began, Updated, Read, Prepared, Decided, Finished, Aborted, Sent, Took, Reported, Heard, Crashed, RestartCut, Restarted, Opened, Cut, Entry, attempt, is_prepare, is_decide, is_abort, shows_decided, time_shown}
 use Rattle.world_model.specs.lines.Listed.{is_named}
 use Rattle.crdt_core.specs.KindsOf.{Kinds}
 use Rattle.world_model.specs.rules.Partition.{PartState, Finds, batch_of, records, MayDo, done, down, cut, PartStep}
@@ -78,7 +78,7 @@ module _ {E : Type 0} where
   -- why a record came; a Lease stands for none
   abbrev pub Because : Plan E → List (Entry E) → (PartId → PartState E) → Bool → PartId → Event E → PartId → List (Record E) → Record E → Type 0
   Because plan run before up at event q old (Lease n) = ⊤
-  Because plan run before up at event q old (Prepare t l n s w) = (q ≡ at) × (attempt event ≡ Prepared t s l w n) × (n ≡ (before at).now + 1) × MayPrepare plan run at t s l w
+  Because plan run before up at event q old (Prepare t l n s w) = (q ≡ at) × (attempt event ≡ Prepared t s (led_by l) w n) × (n ≡ (before at).now + 1) × MayPrepare plan run at t s (led_by l) w
   Because plan run before up at event q old (Decide t c) = (q ≡ at) × (attempt event ≡ Decided t c) × (pending old t ≡ true) × MayDecide plan run at t c × ((shows_decided event t ≡ true) ⊎ (up ≡ false))
   Because plan run before up at event q old (Finish t c) = (q ≡ at) × (pending old t ≡ true) × MayFinish plan run at t c
   Because plan run before up at event q old (Abort t) = (q ≡ at) × (pending old t ≡ true) × ((own : Bool) × (attempt event ≡ Aborted t own) × MayAbort plan run before at t own)
@@ -167,8 +167,8 @@ module _ {E : Type 0} where
       recorded up at event (Began who dep t v) new h s m al d i = with_lease up at t.time event new [] h (λ e. no_lease up at event new h e) (λ k e. only_lease up at event new k h e) (subst (λ rs. MayFind (before at).log rs new) (sym (append-nil (lease_for (before at).log t.time))) i)
       recorded up at event (Updated t v o own op read u stamp) new h s m al d i = no_lease up at event new h i
       recorded up at event (Read t v o own read value) new h s m al d i = no_lease up at event new h i
-      recorded up at event (Prepared t v l w n) new h s m al d i = with_lease up at n event new (Prepare t l n v w ∷ []) h (one_record up at event new (Prepare t l n v w) h (refl, s, m.1, al))
-          (λ k. ⊎_elim (λ e. only_lease up at event new k h e) (λ e. one_more up at event new (Prepare t l n v w) h (told_as new _ _ e (told_prepared (before at).log k t l n v w)) (refl, s, m.1, al))) i
+      recorded up at event (Prepared t v l w n) new h s m al d i = with_lease up at n event new (Prepare t l.lead n v w ∷ []) h (one_record up at event new (Prepare t l.lead n v w) h (refl, s, m.1, al))
+          (λ k. ⊎_elim (λ e. only_lease up at event new k h e) (λ e. one_more up at event new (Prepare t l.lead n v w) h (told_as new _ _ e (told_prepared (before at).log k t l.lead n v w)) (refl, s, m.1, al))) i
       recorded up at event (Decided t c) new h s m al d i = if_pending up at event new t (Decide t c) h (λ k. (refl, s, k, al, d t (same_tx_refl t))) i
       recorded up at event (Finished t c) new h s m al d i = if_pending up at event new t (Finish t c) h (λ k. (refl, k, al)) i
       recorded up at event (Aborted t own) new h s m al d i = one_record up at event new (Abort t) h (refl, m, (own, s, al)) i
@@ -255,7 +255,7 @@ module _ {E : Type 0} where
     votes_of : (event : Event E) → Step event → (t : TxId) → is_prepare event t ≡ true → (new : List (Record E)) → Finds (after at) new → (prepared new t ≡ true) × (prepare_time new t ≡ time_shown event)
     votes_of (Prepared u v l w n) s t h new i =
         let log = (before at).log in
-        let e : new ≡ Prepare u l n v w ∷ grown log (lease_for log n) = the_log (Prepared u v l w n) new s.2 i ∙ grown_last log (lease_for log n) (Prepare u l n v w) in
+        let e : new ≡ Prepare u l.lead n v w ∷ grown log (lease_for log n) = the_log (Prepared u v l w n) new s.2 i ∙ grown_last log (lease_for log n) (Prepare u l.lead n v w) in
         (ap (λ x. prepared x t) e ∙ or_left (same_tx u t) _ h, ap (λ x. prepare_time x t) e ∙ cond-true (same_tx u t) n _ h)
     votes_of event s t h new i = off h
 

@@ -91,7 +91,7 @@ module _ {E : Type 0} where
   two_images : {S : Type 0} (kinds : Kinds S E) (sites parts : ℕ) (id : PartId) (p : PartState E) (a : Event E) (m : List (Record E)) → MayDo kinds sites parts id p a → MayFind p.log (records p a) m → IsTwo p.log (records p a) m
   two_images kinds sites parts id p (Ticked r n) m k i = two_lease p.log m n i
   two_images kinds sites parts id p (Began who dep t s) m k i = two_lease p.log m t.time i
-  two_images kinds sites parts id p (Prepared t s l w n) m k i = two_prepare p.log m n (Prepare t l n s w) i
+  two_images kinds sites parts id p (Prepared t s l w n) m k i = two_prepare p.log m n (Prepare t l.lead n s w) i
   two_images kinds sites parts id p (Decided t c) m k i = two_if p.log m (pending p.log t) (Decide t c) i
   two_images kinds sites parts id p (Finished t c) m k i = two_if p.log m (pending p.log t) (Finish t c) i
   two_images kinds sites parts id p (Aborted t own) m k i = two_one p.log m (Abort t) i
@@ -118,7 +118,7 @@ module _ {E : Type 0} where
     done_bound : (a : Event E) → IsAllowed plan run before at a → MayDo kinds plan.sites plan.parts at (before at) a → (before at).up ≡ true → (j : ℕ) → logged_bound (before at).log j ≡ brought run at j → logged_bound (grown (before at).log (records (before at) a)) j ≡ brought_after run at j (brought run at j) a
     done_bound (Ticked r n) al k up j h = leased_bound (before at).log n j ∙ h
     done_bound (Began who dep t s) al k up j h = leased_bound (before at).log t.time j ∙ h
-    done_bound (Prepared t s l c n) al k up j h = ap (λ x. logged_bound x j) (grown_last (before at).log (lease_for (before at).log n) (Prepare t l n s c)) ∙ leased_bound (before at).log n j ∙ h
+    done_bound (Prepared t s l c n) al k up j h = ap (λ x. logged_bound x j) (grown_last (before at).log (lease_for (before at).log n) (Prepare t l.lead n s c)) ∙ leased_bound (before at).log n j ∙ h
     done_bound (Decided t c) al k up j h = if_bound (before at).log (pending (before at).log t) (Decide t c) j refl ∙ h
     done_bound (Finished t c) al k up j h = if_bound (before at).log (pending (before at).log t) (Finish t c) j refl ∙ h
     done_bound (Aborted t own) al k up j h = h
@@ -157,7 +157,7 @@ module _ {E : Type 0} where
     done_last : (a : Event E) → IsAllowed plan run before at a → MayDo kinds plan.sites plan.parts at (before at) a → (before at).up ≡ true → last_decided (before at).log ≡ last_shown run at → last_decided (grown (before at).log (records (before at) a)) ≡ decided_after (last_shown run at) a
     done_last (Ticked r n) al k up h = leased_last (before at).log n ∙ h
     done_last (Began who dep t s) al k up h = leased_last (before at).log t.time ∙ h
-    done_last (Prepared t s l c n) al k up h = ap last_decided (grown_last (before at).log (lease_for (before at).log n) (Prepare t l n s c)) ∙ leased_last (before at).log n ∙ h
+    done_last (Prepared t s l c n) al k up h = ap last_decided (grown_last (before at).log (lease_for (before at).log n) (Prepare t l.lead n s c)) ∙ leased_last (before at).log n ∙ h
     done_last (Decided t c) al k up h = if_last (before at).log (pending (before at).log t) t c ∙ cond-true _ (Some t) (last_decided (before at).log) (once_pending plan run before f at 0 up t al.once k).0
     done_last (Finished t c) al k up h = if_same (before at).log (pending (before at).log t) t c ∙ h
     done_last (Aborted t own) al k up h = h

@@ -17,7 +17,7 @@ use Rattle.crdt_core.specs.declared.record.Part.{Part}
 use Rattle.crdt_core.specs.declared.record.Message.{Message}
 use Rattle.crdt_core.specs.Log.{end_of_time, prepared, prepare_time, prepared_changes, committed, aborted, pending, ceiling, grown}
 use Rattle.crdt_core.specs.Parts.{touches}
-use Rattle.world_model.specs.rules.Event.{AskRead, AskUpdate, AskDecide, AskAbort, AskTake, TxPending, IsGone, HasGap, IsRepeat, Event, Ticked, Began, Updated, Read, Prepared, Decided, Finished, Aborted, Sent, Took, Reported, Heard, Crashed, RestartCut, Restarted, Refused, Opened, Cut, Entry, attempt, tried, was_aborted, is_decided}
+use Rattle.world_model.specs.rules.Event.{Ballot, AskRead, AskUpdate, AskDecide, AskAbort, AskTake, TxPending, IsGone, HasGap, IsRepeat, Event, Ticked, Began, Updated, Read, Prepared, Decided, Finished, Aborted, Sent, Took, Reported, Heard, Crashed, RestartCut, Restarted, Refused, Opened, Cut, Entry, attempt, tried, was_aborted, is_decided}
 use Rattle.crdt_core.specs.KindsOf.{Kinds}
 use Rattle.world_model.specs.rules.Partition.{PartState, Finds, IsOwnBound, IsReady, IsTxPending, AreTimed, batch_of, new_part, PartStep}
 use Rattle.world_model.specs.lines.Places.{IsOther}
@@ -139,14 +139,14 @@ module _ {E : Type 0} where
     gone_down : (event : Event E) → (after at).up ≡ false → Here plan run at event (after at)
     gone_down event d = record { width = λ u. clash u d; bounds = λ j u o. clash u d; waiting = λ t u. clash u d; time = λ t u k. clash u d }
 
-    prepared_here : (u : TxId) (s : List ℕ) (l n : ℕ) (w : List (Upd E)) → IsAllowed plan run before at (Prepared u s l w n) → PartStep kinds plan.sites plan.parts at (before at) (Prepared u s l w n) (after at) → Here plan run at (Prepared u s l w n) (after at)
+    prepared_here : (u : TxId) (s : List ℕ) (l : Ballot) (n : ℕ) (w : List (Upd E)) → IsAllowed plan run before at (Prepared u s l w n) → PartStep kinds plan.sites plan.parts at (before at) (Prepared u s l w n) (after at) → Here plan run at (Prepared u s l w n) (after at)
     prepared_here u s l n w al st =
         let log = (before at).log in
         let old = grown log (lease_for log n) in
-        let e : (after at).log ≡ Prepare u l n s w ∷ old = ap (λ p. p.log) st.2 ∙ grown_last log (lease_for log n) (Prepare u l n s w) in
+        let e : (after at).log ≡ Prepare u l.lead n s w ∷ old = ap (λ p. p.log) st.2 ∙ grown_last log (lease_for log n) (Prepare u l.lead n s w) in
         let fresh : (t : TxId) → same_tx u t ≡ true → prepared log t ≡ false = λ t k. false_from_ne_true _ (λ p. clash (subst (λ y. tried run y at ≡ true) (sym (same_tx_is u t k)) (f.was_tried at log t (image_log (before at)) p)) al.fresh) in
-        let told : (t : TxId) → pending (Prepare u l n s w ∷ old) t ≡ (same_tx u t || pending log t) = λ t.
-        cond_both (leb n (ceiling log)) [] (Lease (min (n + 1000) end_of_time) ∷ []) (λ rs. pending (Prepare u l n s w ∷ grown log rs) t ≡ (same_tx u t || pending log t))
+        let told : (t : TxId) → pending (Prepare u l.lead n s w ∷ old) t ≡ (same_tx u t || pending log t) = λ t.
+        cond_both (leb n (ceiling log)) [] (Lease (min (n + 1000) end_of_time) ∷ []) (λ rs. pending (Prepare u l.lead n s w ∷ grown log rs) t ≡ (same_tx u t || pending log t))
         (λ x. new_pending (same_tx u t) (prepared log t) (committed log t) (aborted log t) (fresh t) (λ c. f.first at log t (image_log (before at)) c) (λ a. h.first at log t (image_log (before at)) a))
         (λ x. new_pending (same_tx u t) (prepared log t) (committed log t) (aborted log t) (fresh t) (λ c. f.first at log t (image_log (before at)) c) (λ a. h.first at log t (image_log (before at)) a)) in record {
           width = λ x. ap (λ p. length p.bounds) st.2 ∙ h.width at st.0;

@@ -89,7 +89,7 @@ module _ {E : Type 0} where
     drawn_at : (a : Event E) (m : List (Record E)) (t : TxId) → MayDo kinds sites parts id p a → MayFind p.log (records p a) m → IsDrawn p.log (now_after p.now a) m t
     drawn_at (Ticked r n) m t k i = drawn_lease p.log n n m t i
     drawn_at (Began who dep u s) m t k i = drawn_lease p.log u.time u.time m t i
-    drawn_at (Prepared u s l w n) m t k i = drawn_prepare p.log u l n s w m t (in_time n p.now end_of_time k.1 k.2) i
+    drawn_at (Prepared u s l w n) m t k i = drawn_prepare p.log u l.lead n s w m t (in_time n p.now end_of_time k.1 k.2) i
     drawn_at (Decided u c) m t k i = drawn_if p.log p.now m (pending p.log u) (Decide u c) t refl i
     drawn_at (Finished u c) m t k i = drawn_if p.log p.now m (pending p.log u) (Finish u c) t refl i
     drawn_at (Aborted u own) m t k i = drawn_one p.log p.now m (Abort u) t refl i

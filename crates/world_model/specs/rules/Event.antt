@@ -12,13 +12,20 @@ use Rattle.crdt_core.specs.declared.record.Message.{Message}
 use Rattle.world_model.specs.lines.Listed.{is_named}
 use Rattle.world_model.specs.lines.Lines.{Wish}
 
+-- what a vote is asked for with: the number of the lead
+pub record Ballot : Type 0 where
+  pub lead : ℕ
+
+abbrev pub led_by : ℕ → Ballot
+led_by number = record { lead = number }
+
 -- a call that is refused
 pub data Ask (E : Type 0) : Type 0 where
   AskTick : (clock_time : ℕ) → Ask E
   AskBegin : (who : List ℕ) (wish : Wish) → Ask E
   AskRead : (tx : TxId) (s : List ℕ) (object : ObjectId) (own : List (Upd E)) → Ask E
   AskUpdate : (tx : TxId) (s : List ℕ) (object : ObjectId) (own : List (Upd E)) (op : Op) → Ask E
-  AskPrepare : (tx : TxId) (s : List ℕ) (lead : ℕ) (updates : List (Upd E)) → Ask E
+  AskPrepare : (tx : TxId) (s : List ℕ) (ballot : Ballot) (updates : List (Upd E)) → Ask E
   AskDecide : (tx : TxId) (c : List ℕ) → Ask E
   AskFinish : (tx : TxId) (c : List ℕ) → Ask E
   AskAbort : (tx : TxId) → Ask E
@@ -65,7 +72,7 @@ pub data Event (E : Type 0) : Type 0 where
   -- with the earlier updates of the transaction, the parts that were read, in fold order, and the update that came of it
   Updated : (tx : TxId) (s : List ℕ) (object : ObjectId) (own : List (Upd E)) (op : Op) (read : List (Part E)) (change : Upd E) (stamp : Option ℕ) → Event E
   Read : (tx : TxId) (s : List ℕ) (object : ObjectId) (own : List (Upd E)) (read : List (Part E)) (value : Value) → Event E
-  Prepared : (tx : TxId) (s : List ℕ) (lead : ℕ) (updates : List (Upd E)) (time : ℕ) → Event E
+  Prepared : (tx : TxId) (s : List ℕ) (ballot : Ballot) (updates : List (Upd E)) (time : ℕ) → Event E
   Decided : (tx : TxId) (c : List ℕ) → Event E
   Finished : (tx : TxId) (c : List ℕ) → Event E
   -- `own`: on the word of the session, and not of the lead

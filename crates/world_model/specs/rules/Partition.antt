@@ -126,7 +126,7 @@ module _ {E : Type 0} where
   abbrev pub written : List (Record E) → (ℕ → ℕ) → Event E → List (Record E)
   written log bounds (Ticked r n) = lease_for log n
   written log bounds (Began who dep t s) = lease_for log t.time
-  written log bounds (Prepared t s l w n) = lease_for log n ++ Prepare t l n s w ∷ []
+  written log bounds (Prepared t s l w n) = lease_for log n ++ Prepare t l.lead n s w ∷ []
   written log bounds (Decided t c) = if pending log t then Decide t c ∷ [] else []
   written log bounds (Finished t c) = if pending log t then Finish t c ∷ [] else []
   written log bounds (Aborted t own) = Abort t ∷ []

@@ -9,7 +9,7 @@ use Rattle.crdt_core.specs.declared.record.Upd.{Upd}
 use Rattle.crdt_core.specs.declared.record.Message.{Message}
 use Rattle.crdt_core.specs.Objects.{same_object}
 use Rattle.crdt_core.specs.Placing.{place_of}
-use Rattle.world_model.specs.rules.Event.{Ask, AskBegin, AskRead, AskUpdate, AskPrepare, AskDecide, AskFinish, AskTake, Refused, Event, Began, Updated, Read, Prepared, Decided, Finished, Aborted, Sent, Took, Reported, Heard, Entry, attempt, tried, voted, decide_tried, gave_up, was_aborted, is_decided, time_of, WasShown, sent_count, report_count, WasNumbered}
+use Rattle.world_model.specs.rules.Event.{Ballot, Ask, AskBegin, AskRead, AskUpdate, AskPrepare, AskDecide, AskFinish, AskTake, Refused, Event, Began, Updated, Read, Prepared, Decided, Finished, Aborted, Sent, Took, Reported, Heard, Entry, attempt, tried, voted, decide_tried, gave_up, was_aborted, is_decided, time_of, WasShown, sent_count, report_count, WasNumbered}
 use Rattle.world_model.specs.rules.Dependency.{IsKnownJoin}
 use Rattle.crdt_core.specs.KindsOf.{Kinds, fits_kind}
 use Rattle.world_model.specs.rules.Partition.{PartState, ToldAborted, fate_of, PartStep}
@@ -78,12 +78,12 @@ module _ {E : Type 0} where
     pub earlier : own ≡ filter (λ u. same_object u.object o) (updates_at run t p)
 
   -- a prepare is asked once of each participant, the lead first, with all that the transaction changed there
-  pub record MayPrepare (plan : Plan E) (run : List (Entry E)) (p : PartId) (t : TxId) (s : List ℕ) (l : ℕ) (w : List (Upd E)) : Type 0 where
+  pub record MayPrepare (plan : Plan E) (run : List (Entry E)) (p : PartId) (t : TxId) (s : List ℕ) (l : Ballot) (w : List (Upd E)) : Type 0 where
     pub fresh : tried run t p ≡ false
     pub after_lead : p ≢ plan.lead t → voted run t (plan.lead t) ≡ true
     pub takes : takes_part plan t p ≡ true
     pub snapshot : s ≡ plan.snapshot t
-    pub lead : l ≡ (plan.lead t).part
+    pub lead : l.lead ≡ (plan.lead t).part
     pub changes : w ≡ plan.updates t p
 
   -- a session asks once to decide: the lead, when all have voted, and not where it gave up
