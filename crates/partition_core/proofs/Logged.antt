@@ -30,7 +30,7 @@ use Rattle.log_recovery.specs.RisingLaws.{lease_rises}
 use Rattle.world_model.proofs.Moves.{grown_last}
 use Rattle.prepared_table.specs.Entries.{has_entry}
 use Rattle.world_model.specs.lines.Lines.{Wish}
-use Rattle.world_model.specs.rules.Event.{Ask, AskTick, AskBegin, AskPrepare, AskDecide, AskFinish, AskAbort, AskTake, Event, Refused, HasNoRoom, Ticked, Began, Prepared, Decided, Finished, Aborted, Took, Sent, Reported, Heard, Updated, Crashed, attempt}
+use Rattle.world_model.specs.rules.Event.{led_by, Ask, AskTick, AskBegin, AskPrepare, AskDecide, AskFinish, AskAbort, AskTake, Event, Refused, HasNoRoom, Ticked, Began, Prepared, Decided, Finished, Aborted, Took, Sent, Reported, Heard, Updated, Crashed, attempt}
 use Rattle.world_model.specs.rules.Event as event
 use Rattle.world_model.specs.rules.Partition.{PartState, PartStep, MayDo, IsDue, IsBegin, IsRefused, records, down, batch_of, fate_of, ToldDown, ToldPending, ToldCommitted, ToldAborted}
 use Rattle.world_model.proofs.Enough.{begin_enough}
@@ -162,15 +162,15 @@ module _ {S E D : Type 0} (kinds : Kinds S E) (codec : Codec E) (state : D → D
         let voted : Rises (Prepare tx l n s us ∷ grown p.log (lease_for p.log n)) = lease_rises p.log n top r in
         subst (λ k. Rises (grown p.log k)) (vote_adds p h) (subst (λ k. Rises k) (sym (grown_last p.log (lease_for p.log n) (Prepare tx l n s us))) voted)
 
-    pub vote_done : {R : Type 0} (x : R) (g : GateLog D) (t : Tables E) → Appends {T = R} codec state (Ok x) old.gates g vote_records → Steps kinds old.tables (NamesNowhere tx) (λ e. e ≡ Prepared tx s l us n) t → StepsOn kinds codec state old (on_disk t g old.crashed) (NamesNowhere tx) (λ e. e ≡ Prepared tx s l us n)
-    vote_done x g t a steps = done_call kinds codec state old (NamesNowhere tx) up x (on_disk t g old.crashed) vote_records a refl (λ e. e ≡ Prepared tx s l us n) steps
+    pub vote_done : {R : Type 0} (x : R) (g : GateLog D) (t : Tables E) → Appends {T = R} codec state (Ok x) old.gates g vote_records → Steps kinds old.tables (NamesNowhere tx) (λ e. e ≡ Prepared tx s (led_by l) us n) t → StepsOn kinds codec state old (on_disk t g old.crashed) (NamesNowhere tx) (λ e. e ≡ Prepared tx s (led_by l) us n)
+    vote_done x g t a steps = done_call kinds codec state old (NamesNowhere tx) up x (on_disk t g old.crashed) vote_records a refl (λ e. e ≡ Prepared tx s (led_by l) us n) steps
         (λ p h e q shows step.
-        let st : PartStep kinds sites parts old.tables.id p (Prepared tx s l us n) q = subst (λ (y : Event E). PartStep kinds sites parts old.tables.id p y q) shows step in
+        let st : PartStep kinds sites parts old.tables.id p (Prepared tx s (led_by l) us n) q = subst (λ (y : Event E). PartStep kinds sites parts old.tables.id p y q) shows step in
         subst (λ y. IsWritten p y q vote_records) (sym shows) (record { whole = refl; adds = vote_adds p h; log = ap (λ (s : PartState E). s.log) st.2 ∙ ap (λ l. grown p.log l) (vote_adds p h); rises = vote_rises p h (let next = st.1.1 in let early = st.1.2 in omega (arith, next, early)) }))
 
-    pub vote_stopped : {R : Type 0} → entry s old.tables.id.site ≤ old.tables.clock → n ≡ old.tables.clock + 1 → old.tables.clock < end_of_time → (e : AppendError) (g : GateLog D) → Appends {T = R} codec state (Err e) old.gates g vote_records → CallsOn kinds codec state old (with_log old g) (NamesNowhere tx) (AskPrepare tx s l us) (λ m e. e ≡ Prepared tx s l us m) (Err (stopped e))
-    vote_stopped {R} reached is early e g a = stopped_call kinds codec state old (NamesNowhere tx) up {R = R} (AskPrepare tx s l us) (λ m e. e ≡ Prepared tx s l us m) vote_records
-        (λ p h _. record { what = Prepared tx s l us n; shows = (n, refl); may = (subst (λ k. entry s old.tables.id.site ≤ k) (sym h.clock) reached, is ∙ ap (λ k. k + 1) (sym h.clock), subst (λ k. k < end_of_time) (sym h.clock) early); adds = vote_adds p h; rises = vote_rises p h (omega (arith, is, early)) })
+    pub vote_stopped : {R : Type 0} → entry s old.tables.id.site ≤ old.tables.clock → n ≡ old.tables.clock + 1 → old.tables.clock < end_of_time → (e : AppendError) (g : GateLog D) → Appends {T = R} codec state (Err e) old.gates g vote_records → CallsOn kinds codec state old (with_log old g) (NamesNowhere tx) (AskPrepare tx s (led_by l) us) (λ m e. e ≡ Prepared tx s (led_by l) us m) (Err (stopped e))
+    vote_stopped {R} reached is early e g a = stopped_call kinds codec state old (NamesNowhere tx) up {R = R} (AskPrepare tx s (led_by l) us) (λ m e. e ≡ Prepared tx s (led_by l) us m) vote_records
+        (λ p h _. record { what = Prepared tx s (led_by l) us n; shows = (n, refl); may = (subst (λ k. entry s old.tables.id.site ≤ k) (sym h.clock) reached, is ∙ ap (λ k. k + 1) (sym h.clock), subst (λ k. k < end_of_time) (sym h.clock) early); adds = vote_adds p h; rises = vote_rises p h (omega (arith, is, early)) })
         (λ p k h _. (subst (λ k. entry s old.tables.id.site ≤ k) (sym h.clock) reached, subst (λ k. k < end_of_time) (sym h.clock) early))
         e g a
 

@@ -10,7 +10,7 @@ use Rattle.crdt_core.specs.declared.record.Upd.{Upd}
 use Rattle.crdt_core.specs.declared.record.Part.{Part}
 use Rattle.crdt_core.specs.declared.record.Record.{Record}
 use Rattle.crdt_core.specs.declared.record.Record.TheVariants.{Lease, Prepare, Decide, Finish, Abort, Batch}
-use Rattle.crdt_core.specs.Fitting.{unfit, fits_record}
+use Rattle.crdt_core.specs.Fitting.{unfit, unfit_under}
 use Rattle.crdt_core.specs.Log.{end_of_time, ceiling, held_at, held_changes}
 use Rattle.crdt_core.specs.Orders.{Ascends, insert_by, fold_cmp}
 use Rattle.crdt_core.specs.Parts.{lists, AreParts}
@@ -19,7 +19,7 @@ use Rattle.prepared_table.specs.Entries.{has_entry, entry_cmp}
 use Rattle.effect_store.specs.Stored.{Stored}
 use Rattle.log_recovery.specs.declared.recovery.Rebuilt.{Rebuilt}
 use Rattle.log_recovery.specs.Lists as recovery
-use Rattle.log_recovery.specs.FittingLaws.{fits_first, pending_home, committed_home, taken_away, pending_unheld, pending_under}
+use Rattle.log_recovery.specs.FittingLaws.{rest_fits, last_fits, pending_home, committed_home, taken_away, pending_unheld, pending_under}
 use Rattle.log_recovery.specs.Rising.{Rises}
 use Rattle.partition_core.specs.Messages.{AreApart, AreWideParts, CanPut, inserted, updates_in}
 use Rattle.log_recovery.specs.Told.{IsToldBy}
@@ -128,19 +128,22 @@ module _ {E : Type 0} where
   put_exact v c (x ∷ xs) h = parts_inserted fold_cmp v c x (inserted xs []) (put_exact v c xs h.1) h.0
 
   -- no ceiling of a log that fits passes the end of time
+  low_ceiling : (sites parts : ℕ) (id : PartId) (top : ℕ) (log : List (Record E)) → unfit_under sites parts id top log ≡ None → ceiling log ≤ end_of_time
+  low_ceiling sites parts id top [] f = omega arith
+  low_ceiling sites parts id top (Lease n ∷ log) f = leb-true n end_of_time (last_fits sites parts id top (Lease n) log f)
+  low_ceiling sites parts id top (Prepare t l n s w ∷ log) f = low_ceiling sites parts id top log (rest_fits sites parts id top (Prepare t l n s w) log f)
+  low_ceiling sites parts id top (Decide t c ∷ log) f = low_ceiling sites parts id top log (rest_fits sites parts id top (Decide t c) log f)
+  low_ceiling sites parts id top (Finish t c ∷ log) f = low_ceiling sites parts id top log (rest_fits sites parts id top (Finish t c) log f)
+  low_ceiling sites parts id top (Abort t ∷ log) f = low_ceiling sites parts id top log (rest_fits sites parts id top (Abort t) log f)
+  low_ceiling sites parts id top (Batch m ∷ log) f = low_ceiling sites parts id top log (rest_fits sites parts id top (Batch m) log f)
+
   pub ceiling_ends : (sites parts : ℕ) (id : PartId) (log : List (Record E)) → unfit sites parts id log ≡ None → ceiling log ≤ end_of_time
-  ceiling_ends sites parts id [] f = omega arith
-  ceiling_ends sites parts id (Lease n ∷ log) f = leb-true n end_of_time (fits_first (unfit sites parts id log) (fits_record sites parts id log (Lease n)) (length log) f).1
-  ceiling_ends sites parts id (Prepare t l n s w ∷ log) f = ceiling_ends sites parts id log (fits_first (unfit sites parts id log) (fits_record sites parts id log (Prepare t l n s w)) (length log) f).0
-  ceiling_ends sites parts id (Decide t c ∷ log) f = ceiling_ends sites parts id log (fits_first (unfit sites parts id log) (fits_record sites parts id log (Decide t c)) (length log) f).0
-  ceiling_ends sites parts id (Finish t c ∷ log) f = ceiling_ends sites parts id log (fits_first (unfit sites parts id log) (fits_record sites parts id log (Finish t c)) (length log) f).0
-  ceiling_ends sites parts id (Abort t ∷ log) f = ceiling_ends sites parts id log (fits_first (unfit sites parts id log) (fits_record sites parts id log (Abort t)) (length log) f).0
-  ceiling_ends sites parts id (Batch m ∷ log) f = ceiling_ends sites parts id log (fits_first (unfit sites parts id log) (fits_record sites parts id log (Batch m)) (length log) f).0
+  ceiling_ends sites parts id log f = low_ceiling sites parts id (ceiling log) log f
 
   module _ (sites parts : ℕ) (id : PartId) (log : List (Record E)) (told : Rebuilt E) (h : IsToldBy sites parts id log told) (table : List (Entry E)) (promised : ℕ) (filled : IsTableOf told.pending table promised) where
     -- what is pending began at the site
     pub recovered_home : (u : TxId) → has_entry table u ≡ true → u.site ≡ id.site
-    recovered_home u k = (pending_home sites parts id log h.fits u (sym (filled.members u ∙ h.pending.members u) ∙ k)).home
+    recovered_home u k = (pending_home sites parts id (ceiling log) log h.fits u (sym (filled.members u ∙ h.pending.members u) ∙ k)).home
 
     -- the store can take what is committed
     pub recovered_fits : (committed : List (Part E)) (store : Stored E) (count : ℕ) → committed ≡ told.committed → store.parts ≡ [] → store.sites ≡ sites → count + length committed ≤ store.room → promised + updates_in committed ≤ store.update_room → CanPut committed store
@@ -157,7 +160,7 @@ module _ {E : Type 0} where
         → count + length committed ≤ old.room → promised + updates_in committed ≤ old.update_room → HasRoom table promised store
     recovered_room committed old store count e counted put none room update_room enough enough_updates = record {
       single = filled.single;
-      apart = λ u k. ap (λ l. lists l u) put ∙ ap (λ l. lists (inserted committed l) u) none ∙ lists_put committed u ∙ ap (λ l. lists l u) e ∙ h.committed.members u ∙ pending_unheld sites parts id log h.fits u (sym (filled.members u ∙ h.pending.members u) ∙ k);
+      apart = λ u k. ap (λ l. lists l u) put ∙ ap (λ l. lists (inserted committed l) u) none ∙ lists_put committed u ∙ ap (λ l. lists l u) e ∙ h.committed.members u ∙ pending_unheld sites parts id (ceiling log) log h.fits u (sym (filled.members u ∙ h.pending.members u) ∙ k);
       counted = filled.counted;
       room = omega (arith, counted, room, enough);
       update_room = omega (arith, update_room, enough_updates);
@@ -167,11 +170,11 @@ module _ {E : Type 0} where
     recovered_tells held put rises = subst (λ l. Tells log id.site (ceiling log) table l) (sym put) (record {
       table = record { order = filled.order; members = λ u. filled.members u ∙ h.pending.members u; exact = filled.exact (recovery.told log) h.pending.exact };
       store = record { order = put_order told.committed (same_apart told.committed h.committed.apart); members = λ u. lists_put told.committed u ∙ h.committed.members u; exact = put_exact (held_at log) (held_changes log) told.committed h.committed.exact };
-      passed = pending_under sites parts id log h.fits rises;
-      timed = λ u k. (pending_home sites parts id log h.fits u k).timed;
-      waiting = λ u k. (pending_home sites parts id log h.fits u k).home;
-      ended = λ u k. (committed_home sites parts id log h.fits u k).home;
-      brought = λ u k. (taken_away sites parts id log h.fits u k).away;
+      passed = pending_under sites parts id (ceiling log) log h.fits;
+      timed = λ u k. (pending_home sites parts id (ceiling log) log h.fits u k).timed;
+      waiting = λ u k. (pending_home sites parts id (ceiling log) log h.fits u k).home;
+      ended = λ u k. (committed_home sites parts id (ceiling log) log h.fits u k).home;
+      brought = λ u k. (taken_away sites parts id (ceiling log) log h.fits u k).away;
     })
 
     pub recovered_stands : (t : Tables E) → t.id ≡ id → t.clock ≡ told.ceiling → t.ceiling ≡ told.ceiling → t.pending ≡ table → t.held ≡ inserted told.committed [] → t.bounds ≡ told.bounds → t.heard ≡ replicate parts (replicate sites 0) → t.sent ≡ replicate sites 0 → Rises log → Stands t (resumed sites parts told.bounds log)

@@ -1,5 +1,5 @@
 -- A begin that reads what is stable alone: refused, or one step.
-use Rattle.std.proofs.Common.{◌≡◌, ◌≢◌, ◌⊎◌, inl, inr, ⊎_elim, ℕ, zero, suc, cond, true, false, ◌+◌, ◌<◌, ◌≤◌, List, length, refl, sym, ap, ◌∙◌, subst, arith, le_trans}
+use Rattle.std.proofs.Common.{◌≡◌, ◌≢◌, ◌⊎◌, inl, inr, ⊎_elim, ℕ, true, false, ◌+◌, ◌<◌, ◌≤◌, List, length, refl, sym, ap, ◌∙◌, subst, arith}
 use Rattle.std.specs.Prelude.{◌==◌, if◌then◌else◌}
 use Rattle.std.proofs.lemmas.Bool.{cases_Bool, cond-true, eqb-true, eq-eqb, true≢false}
 use Rattle.site_vector.specs.declared.ids.TxId.{TxId}
@@ -7,8 +7,7 @@ use Rattle.site_vector.specs.Vector.{entry, replaced}
 use Rattle.site_vector.specs.Known.{vector_of, lowest}
 use Rattle.crdt_core.specs.KindsOf.{Kinds}
 use Rattle.crdt_core.specs.Log.{end_of_time}
-use Rattle.stable_gossip.specs.Gossip.{told}
-use Rattle.world_model.specs.rules.Event.{Event, AskBegin, Began, Refused, StableBehind, ClockAtEnd}
+use Rattle.world_model.specs.rules.Event.{AskBegin, Began, Refused, StableBehind, ClockAtEnd}
 use Rattle.world_model.specs.declared.command.Mode.TheVariants.{Stable}
 use Rattle.world_model.specs.lines.Lines.{wish_of}
 use Rattle.world_model.specs.lines.Places.{IsPlace, IsOther}
@@ -16,7 +15,7 @@ use Rattle.world_model.specs.rules.Partition.{PartState, IsOwnStable, IsStableEn
 use Rattle.world_model.proofs.Names.{lowest_below}
 use Rattle.partition_core.specs.Tables.{Tables}
 use Rattle.partition_core.specs.Bounds.{own_bound, AreStable, AllEnough, IsFirstBehind}
-use Rattle.partition_core.specs.Leases.{leased, showing, at_time}
+use Rattle.partition_core.specs.Leases.{leased, at_time}
 use Rattle.partition_core.specs.Stands.{Stands}
 use Rattle.partition_core.specs.Steps.{Anything, Steps}
 use Rattle.partition_core.proofs.Bounding.{bounds_own}

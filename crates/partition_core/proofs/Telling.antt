@@ -5,8 +5,8 @@ use Rattle.std.proofs.lemmas.List.{append-nil, length-append}
 use Rattle.site_vector.specs.declared.ids.PartId.{PartId}
 use Rattle.gate_log.specs.Payloads.{placed, AreWithin}
 use Rattle.crdt_core.specs.declared.record.Record.{Record}
-use Rattle.crdt_core.specs.Fitting.{fits_record, unfit, unfit_next}
-use Rattle.crdt_core.specs.Log.{grown}
+use Rattle.crdt_core.specs.Fitting.{fits_record, unfit_next, unfit_under}
+use Rattle.crdt_core.specs.Log.{ceiling, grown}
 use Rattle.log_recovery.specs.declared.recovery.Recovery.{Recovery}
 use Rattle.log_recovery.specs.Told.{HasRead, ReadsNext}
 use Rattle.log_recovery.proofs.Seeing.{unfit_grown}
@@ -34,16 +34,16 @@ module _ {E : Type 0} (codec : Codec E) where
   each_behind [] x rest h = h.1
   each_behind (y ∷ front) x rest h = each_behind front x rest h.1
 
-module _ {E : Type 0} (codec : Codec E) (sites parts : ℕ) (id : PartId) (all : List Item) where
+module _ {E : Type 0} (codec : Codec E) (sites parts : ℕ) (id : PartId) (top : ℕ) (all : List Item) where
   -- the records so far were read, and the rest is left
   pub record IsUnderway (left : List Item) (r : Recovery E) : Type 0 where
     pub so : SoFar codec all left
-    pub has : HasRead sites parts id so.log r
+    pub has : HasRead sites parts id top so.log r
 
-  pub underway_starts : (r : Recovery E) → AreWithin all → HasRead sites parts id [] r → IsUnderway all r
+  pub underway_starts : (r : Recovery E) → AreWithin all → HasRead sites parts id top [] r → IsUnderway all r
   underway_starts r within h = record { so = started codec all within; has = h }
 
-  pub underway_ends : (left : List Item) (r : Recovery E) → left ≡ [] → IsUnderway left r → (log : List (Record E)) × AreRecords codec all log × HasRead sites parts id log r
+  pub underway_ends : (left : List Item) (r : Recovery E) → left ≡ [] → IsUnderway left r → (log : List (Record E)) × AreRecords codec all log × HasRead sites parts id top log r
   underway_ends left r e h = (h.so.log, subst (λ items. AreRecords codec items h.so.log) (sym (h.so.is ∙ ap (λ l. h.so.front ++ l) e ∙ append-nil h.so.front)) h.so.read, h.has)
 
   -- all records, where the rest are records too
@@ -55,27 +55,27 @@ module _ {E : Type 0} (codec : Codec E) (sites parts : ℕ) (id : PartId) (all :
       (r.0 ∷ next.0, next.1)
 
   module _ (left : List Item) (x : Item) (rest : List Item) (next : Record E) (old : Recovery E) (e : left ≡ x ∷ rest) (spelled : codec.spelled next ≡ true) (is : x.1 ≡ codec.bytes next) (h : IsUnderway left old) where
-    pub underway_more : (new : Recovery E) (fits : Bool) → fits ≡ true → ReadsNext sites parts id h.so.log next new fits → IsUnderway rest new
+    pub underway_more : (new : Recovery E) (fits : Bool) → fits ≡ true → ReadsNext sites parts id top h.so.log next new fits → IsUnderway rest new
     underway_more new fits f reads = record { so = went_on codec all left x rest next e spelled is h.so; has = reads.read f }
 
     -- a record that doesn't fit is the first, where all are records
-    pub underway_stops : (new : Recovery E) (fits : Bool) → fits ≡ false → ReadsNext sites parts id h.so.log next new fits → (log : List (Record E)) → AreRecords codec all log → (payloads : List (List ℕ)) → all ≡ placed 8 payloads
+    pub underway_stops : (new : Recovery E) (fits : Bool) → fits ≡ false → ReadsNext sites parts id top h.so.log next new fits → ((log : List (Record E)) → AreRecords codec all log → top ≡ ceiling log) → (log : List (Record E)) → AreRecords codec all log → (payloads : List (List ℕ)) → all ≡ placed 8 payloads
         → (log : List (Record E)) × AreRecords codec all log × IsUnfitAt codec sites parts id log x.0
-    underway_stops new fits f reads log read payloads at =
+    underway_stops new fits f reads last log read payloads at =
         let so = went_on codec all left x rest next e spelled is h.so in
         let split : all ≡ h.so.front ++ x ∷ rest = h.so.is ∙ ap (λ l. h.so.front ++ l) e in
         let each = each_behind codec h.so.front x rest (subst (λ l. EachRecord codec (map (λ item. item.1) l)) split (subst (EachRecord codec) (sym read.payloads) (each_of_log codec log read.spelled))) in
         let more = all_more rest each so in
         let whole = grown (next ∷ h.so.log) more.0 in
         let n = length h.so.log in
-        let here : unfit sites parts id (next ∷ h.so.log) ≡ Some n = ap (λ o. unfit_next o (fits_record sites parts id h.so.log next) n) h.has.fits ∙ ap (λ b. unfit_next None b n) (sym reads.judged ∙ f) in
+        let here : unfit_under sites parts id top (next ∷ h.so.log) ≡ Some n = ap (λ o. unfit_next o (fits_record sites parts id top h.so.log next) n) h.has.fits ∙ ap (λ b. unfit_next None b n) (sym reads.judged ∙ f) in
         let count : length h.so.front ≡ n = sym (length_map (λ (item : Item). item.1) h.so.front) ∙ ap length h.so.read.payloads ∙ length_payloads codec h.so.log in
         let items : placed 8 (payloads_of codec whole) ≡ h.so.front ++ x ∷ rest = ap (placed 8) (sym (same_payloads codec all payloads whole at more.1)) ∙ sym at ∙ split in (
           whole,
           more.1,
           record {
             number = n;
-            first = unfit_grown sites parts id n (next ∷ h.so.log) more.0 here;
+            first = ap (λ n. unfit_under sites parts id n whole) (sym (last whole more.1)) ∙ unfit_grown sites parts id top n (next ∷ h.so.log) more.0 here;
             payload = x.1;
             there = ap (λ l. slice_get l n) items ∙ ap (λ k. slice_get (h.so.front ++ x ∷ rest) k) (sym count) ∙ at_front h.so.front x rest;
           },

@@ -1,5 +1,5 @@
 -- What a call of a partition on its disk never answers.
-use Rattle.std.specs.Prelude.{◌≡◌, ◌≢◌, ℕ, Result, Err}
+use Rattle.std.specs.Prelude.{◌≢◌, ℕ, Result, Err}
 use Rattle.partition_core.specs.declared.durable.DurableError.{DurableError}
 use Rattle.partition_core.specs.declared.durable.DurableError.TheVariants as call
 

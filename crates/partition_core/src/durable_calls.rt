@@ -12,7 +12,7 @@ ghost use Rattle.crdt_core.specs.Spelled.{is_tx};
 ghost use Rattle.log_records.specs.Messages.{can_put_message};
 ghost use Rattle.log_records.specs.Records.{can_put_record};
 ghost use Rattle.partition_log.specs.Codec.{codec_of};
-ghost use Rattle.world_model.specs.rules.Event.{AskTick, AskBegin, AskRead, AskUpdate, AskPrepare, AskDecide, AskFinish, AskAbort, AskMessage, AskTake, AskReport, AskHear, Updated};
+ghost use Rattle.world_model.specs.rules.Event.{led_by, AskTick, AskBegin, AskRead, AskUpdate, AskPrepare, AskDecide, AskFinish, AskAbort, AskMessage, AskTake, AskReport, AskHear, Updated};
 ghost use Rattle.world_model.specs.rules.Event as event;
 ghost use Rattle.world_model.specs.lines.Lines.{wish_of};
 ghost use Rattle.world_model.specs.lines.Places.{IsOther};
@@ -169,7 +169,7 @@ impl<C: Crdt, D: Disk + Drop> DurablePartition<C, D> {
         requires width { length s.now ≡ self.old.tables.sites }
         requires unknown { is_down self.old ≡ false → knows self.old.tables tx ≡ false }
         requires spelled { (time : ℕ) → can_put_record C.has C.is_of C.can_put (Prepare tx lead time s.now updates.now) ≡ true }
-        ensures { CallsOn (kinds_of C.laws) (codec_of C.spells) D.state self.old self.new (NamesNowhere tx) (AskPrepare tx s.now lead updates.now) (λ n e. e ≡ event.Prepared tx s.now lead updates.now n) result }
+        ensures { CallsOn (kinds_of C.laws) (codec_of C.spells) D.state self.old self.new (NamesNowhere tx) (AskPrepare tx s.now (led_by lead) updates.now) (λ n e. e ≡ event.Prepared tx s.now (led_by lead) updates.now n) result }
     {
         if self.is_down() {
             return Err(DurableError::Down);

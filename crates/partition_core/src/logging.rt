@@ -16,7 +16,7 @@ ghost use Rattle.partition_log.specs.Appends.{Appends};
 ghost use Rattle.partition_log.specs.Codec.{codec_of};
 ghost use Rattle.partition_log.specs.Gates.{gates_of, leases};
 ghost use Rattle.prepared_table.specs.declared.entry.Entry.{Entry};
-ghost use Rattle.world_model.specs.rules.Event.{AskPrepare, AskTake};
+ghost use Rattle.world_model.specs.rules.Event.{Ballot, led_by, AskPrepare, AskTake};
 ghost use Rattle.world_model.specs.rules.Event as event;
 ghost use Rattle.world_model.specs.rules.Partition.{batch_of};
 ghost use Rattle.partition_core.specs.Answers.{cause};
@@ -106,7 +106,7 @@ impl<C: Crdt> Partition<C> {
         ensures reached { IfOk result (λ n. entry s.now self.now.id.site ≤ self.now.clock) }
         ensures next { IfOk result (λ n. n ≡ self.now.clock + 1) }
         ensures early { IfOk result (λ n. self.now.clock < end_of_time) }
-        ensures refused { (tx : TxId) (lead : ℕ) (updates : List (Upd C.Effect)) → IfErr result (λ why. Steps (kinds_of C.laws) self.now (NamesNowhere tx) (λ e. e ≡ event.Refused (AskPrepare tx s.now lead updates) (cause why)) self.now) }
+        ensures refused { (tx : TxId) (ballot : Ballot) (updates : List (Upd C.Effect)) → IfErr result (λ why. Steps (kinds_of C.laws) self.now (NamesNowhere tx) (λ e. e ≡ event.Refused (AskPrepare tx s.now ballot updates) (cause why)) self.now) }
     {
         let at = self.clock.now();
         if at < s.get(self.id.site) {
@@ -141,7 +141,7 @@ impl<C: Crdt> Partition<C> {
         requires early { self.old.clock < end_of_time }
         requires fit { can_put_record C.has C.is_of C.can_put (Prepare tx lead time s.now updates.now) ≡ true }
         requires ready { IsReady D.state (gates_of log.old) }
-        ensures tables { MatchResult result (λ _. Steps (kinds_of C.laws) self.old (NamesNowhere tx) (λ e. e ≡ event.Prepared tx s.now lead updates.now time) self.new) (λ _. self.new ≡ self.old) }
+        ensures tables { MatchResult result (λ _. Steps (kinds_of C.laws) self.old (NamesNowhere tx) (λ e. e ≡ event.Prepared tx s.now (led_by lead) updates.now time) self.new) (λ _. self.new ≡ self.old) }
         ensures appends { Appends (codec_of C.spells) D.state result (gates_of log.old) (gates_of log.new) (lease_at self.old.ceiling time ++ Prepare tx lead time s.now updates.now ∷ []) }
     {
         let Ok(promised) = promise(

@@ -3,7 +3,7 @@ ghost use Rattle.std.specs.Prelude.{◌≡◌, ◌≢◌, ◌≤◌, ◌⊎◌, 
 ghost use Rattle.disk_core.specs.States.{GoesOn, Fails, bytes_of};
 ghost use Rattle.gate_log.specs.Logs.{disk_of, is_closed, read_at_opening, IsReady};
 ghost use Rattle.gate_log.specs.Payloads.{placed};
-ghost use Rattle.gate_log.specs.Rest.{AtRest};
+ghost use Rattle.gate_log.specs.Rest.{AtRest, Lowers};
 ghost use Rattle.partition_log.specs.Codec.{codec_of};
 ghost use Rattle.partition_log.specs.Gates.{gates_of};
 ghost use Rattle.partition_log.specs.Damage.{AreRecords, IsDamaged, IsRefusedAt};
@@ -200,6 +200,7 @@ impl<C: Crdt, D: Disk + Drop> DurablePartition<C, D> {
         ensures damaged { IfErr result (λ e. (at : ℕ) → e.1 ≡ DamagedAt at → IsTrue (D.state disk).tells → IsDamaged (codec_of C.spells) (bytes_of (D.state disk)) at
             ⊎ ((log : List (Record C.Effect)) × HoldsLog (codec_of C.spells) (bytes_of (D.state disk)) log × IsUnfitAt (codec_of C.spells) sites parts id log at)) }
         ensures goes_on { MatchResult result (λ p. GoesOn (D.state disk) (D.state (disk_of p.gates))) (λ e. GoesOn (D.state disk) (D.state e.0)) }
+        ensures left { MatchResult result (λ p. Lowers 3 (D.state disk).left (D.state (disk_of p.gates)).left) (λ e. Lowers 3 (D.state disk).left (D.state e.0).left) }
         ensures failed { IfErr result (λ e. e.1 ≡ DiskFailed → Fails (D.state disk) (D.state e.0)) }
     {
         match PartLog::open(alloc, disk) {

@@ -39,8 +39,8 @@ fn damage_of<C: Crdt, D: Disk + Drop>(
     }
 }
 
-/// What a log tells a partition that was read at its opening. Each record is read, tested and counted before the next
-/// one is looked at.
+/// What a log tells a partition that was read at its opening. Once its last lease is found, each record is read, tested
+/// and counted before the next one is looked at.
 ///
 /// # Errors
 ///
@@ -64,7 +64,8 @@ pub(crate) fn told_by<C: Crdt, D: Disk + Drop>(
         ⊎ ((l : List (Record C.Effect)) × AreRecords (codec_of C.spells) (read_at_opening (gates_of log.now)) l × IsUnfitAt (codec_of C.spells) sites parts id l at) }
     ensures reads { result ≢ Err DiskFailed }
 {
-    let mut recovery = Recovery::new(alloc, id, sites, parts);
+    let top = log.last_ceiling();
+    let mut recovery = Recovery::new(alloc, id, sites, parts, top);
     for (place, payload) in log.payloads() {
         let record = record_at::<C>(alloc, place, payload)?;
         if !recovery.read(record)? {

@@ -11,7 +11,7 @@ use Rattle.field_codec.specs.FormLaws.{and_true}
 use Rattle.log_records.specs.Records.{can_put_record}
 use Rattle.log_records.specs.Updates.{can_put_updates}
 use Rattle.world_model.specs.lines.Lines.{Wish}
-use Rattle.world_model.specs.rules.Event.{Ask, AskBegin, AskRead, AskUpdate, AskPrepare, AskDecide, AskFinish, AskMessage, AskHear, Reported, Refused, IsGone, Entry, time_of, report_count}
+use Rattle.world_model.specs.rules.Event.{Ballot, Ask, AskBegin, AskRead, AskUpdate, AskPrepare, AskDecide, AskFinish, AskMessage, AskHear, Reported, Refused, IsGone, Entry, time_of, report_count}
 use Rattle.world_model.specs.lines.Places.{IsOther, IsPlace}
 use Rattle.world_model.specs.rules.World.{plan_of, begun, IsWorldRun}
 use Rattle.world_model.specs.rules.Partition.{PartState}
@@ -36,7 +36,7 @@ use Rattle.site_partitions.proofs.Widths.{voted_width, taking_width, shown_width
 
 -- the log names a transaction in no record that was never asked for its vote
 module _ {S E : Type 0} (kinds : Kinds S E) (sites parts : ℕ) (at : PartId) where
-  pub never_named : (run : List (Entry E)) (state : PartId → PartState E) → IsWorldRun kinds sites parts run state → (tx : TxId) (s : List ℕ) (l : ℕ) (us : List (Upd E)) → MayCall sites parts run at (AskPrepare tx s l us) → IsNew (state at).log tx
+  pub never_named : (run : List (Entry E)) (state : PartId → PartState E) → IsWorldRun kinds sites parts run state → (tx : TxId) (s : List ℕ) (l : Ballot) (us : List (Upd E)) → MayCall sites parts run at (AskPrepare tx s l us) → IsNew (state at).log tx
   never_named run state r tx s l us m = is_new tx (state at).log ((premises kinds sites parts run state r).unasked at tx (sym m.0.site) m.1.fresh)
 
 module _ {E D : Type 0} (sites parts : ℕ) (items : List (Durable E D)) (c : Held E D) (view : record { sites = sites; parts = parts; partitions = items } ≡ c) (size : IsSized sites parts (length items)) where
@@ -66,13 +66,13 @@ module _ {S E D : Type 0} (w : Types S E D) (sites parts : ℕ) (at : PartId) (t
   pub update_width : (tx : TxId) (s : List ℕ) (o : ObjectId) (own : List (Upd E)) (op : Op) → IsAskable w sites parts at t (AskUpdate tx s o own op) → length s ≡ t.tables.sites
   update_width tx s o own op m = of_cluster (AskUpdate tx s o own op) (length s) m (shown_width w.kinds sites parts m.run m.state m.is_run _ _ _ tx s m.allowed.0.begun)
 
-  pub prepare_width : (tx : TxId) (s : List ℕ) (l : ℕ) (us : List (Upd E)) → IsAskable w sites parts at t (AskPrepare tx s l us) → length s ≡ t.tables.sites
+  pub prepare_width : (tx : TxId) (s : List ℕ) (l : Ballot) (us : List (Upd E)) → IsAskable w sites parts at t (AskPrepare tx s l us) → length s ≡ t.tables.sites
   prepare_width tx s l us m = of_cluster (AskPrepare tx s l us) (length s) m (shown_width w.kinds sites parts m.run m.state m.is_run _ _ _ tx s m.allowed.0.begun)
 
-  pub prepare_site : (tx : TxId) (s : List ℕ) (l : ℕ) (us : List (Upd E)) → IsAskable w sites parts at t (AskPrepare tx s l us) → tx.site ≡ t.tables.id.site
+  pub prepare_site : (tx : TxId) (s : List ℕ) (l : Ballot) (us : List (Upd E)) → IsAskable w sites parts at t (AskPrepare tx s l us) → tx.site ≡ t.tables.id.site
   prepare_site tx s l us m = of_site (AskPrepare tx s l us) tx.site m m.allowed.0.site
 
-  pub prepare_unknown : (tx : TxId) (s : List ℕ) (l : ℕ) (us : List (Upd E)) → IsAskable w sites parts at t (AskPrepare tx s l us) → is_down t ≡ false → knows t.tables tx ≡ false
+  pub prepare_unknown : (tx : TxId) (s : List ℕ) (l : Ballot) (us : List (Upd E)) → IsAskable w sites parts at t (AskPrepare tx s l us) → is_down t ≡ false → knows t.tables tx ≡ false
   prepare_unknown tx s l us m up = knows_no_new t.tables (m.state at) (up_of (AskPrepare tx s l us) m up).tables tx (never_named w.kinds sites parts at m.run m.state m.is_run tx s l us m.allowed)
 
   pub decide_width : (tx : TxId) (v : List ℕ) → IsAskable w sites parts at t (AskDecide tx v) → length v ≡ t.tables.sites
@@ -106,11 +106,11 @@ module _ {S E D : Type 0} (w : Types S E D) (sites parts : ℕ) (at : PartId) (t
   pub finish_is_tx : (tx : TxId) (v : List ℕ) → IsAskable w sites parts at t (AskFinish tx v) → is_tx tx ≡ true
   finish_is_tx tx v m = tx_of (AskFinish tx v) m tx (part_begun sites m.run tx at m.allowed.0)
 
-  pub prepare_is_tx : (tx : TxId) (s : List ℕ) (l : ℕ) (us : List (Upd E)) → IsAskable w sites parts at t (AskPrepare tx s l us) → is_tx tx ≡ true
+  pub prepare_is_tx : (tx : TxId) (s : List ℕ) (l : Ballot) (us : List (Upd E)) → IsAskable w sites parts at t (AskPrepare tx s l us) → is_tx tx ≡ true
   prepare_is_tx tx s l us m = tx_of (AskPrepare tx s l us) m tx (part_begun sites m.run tx at m.allowed.1.takes)
 
   -- what it was asked for can be put into a log
-  pub prepare_put : (tx : TxId) (s : List ℕ) (l : ℕ) (us : List (Upd E)) (time : ℕ) → IsAskable w sites parts at t (AskPrepare tx s l us) → can_put_record w.kinds.has w.is_of w.can_put (Prepare tx l time s us) ≡ true
+  pub prepare_put : (tx : TxId) (s : List ℕ) (l : Ballot) (us : List (Upd E)) (time : ℕ) → IsAskable w sites parts at t (AskPrepare tx s l us) → can_put_record w.kinds.has w.is_of w.can_put (Prepare tx l.lead time s us) ≡ true
   prepare_put tx s l us time m =
       and_true (is_tx tx) (can_put_updates w.kinds.has w.is_of w.can_put us) (prepare_is_tx tx s l us m)
       (subst (λ xs. can_put_updates w.kinds.has w.is_of w.can_put xs ≡ true) (sym m.allowed.1.changes) (changes_put w sites parts m.run m.state m.is_run m.puts tx at m.allowed.1.takes))

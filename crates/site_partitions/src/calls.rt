@@ -2,7 +2,7 @@ ghost use Rattle.std.specs.Prelude.{◌≡◌, ◌≤◌, ◌+◌, ℕ, List, tr
 ghost use Rattle.crdt_core.specs.declared.record.Part.{Part};
 ghost use Rattle.crdt_core.specs.KindsOf.{fits_kind};
 ghost use Rattle.crdt_core.specs.Log.{end_of_time};
-ghost use Rattle.world_model.specs.rules.Event.{AskTick, AskBegin, AskRead, AskUpdate, AskPrepare, AskDecide, AskFinish, AskAbort, AskMessage, AskTake, AskReport, AskHear, Ticked, Began, Updated, Decided, Finished, Aborted, Sent, Took, Reported, Heard};
+ghost use Rattle.world_model.specs.rules.Event.{led_by, AskTick, AskBegin, AskRead, AskUpdate, AskPrepare, AskDecide, AskFinish, AskAbort, AskMessage, AskTake, AskReport, AskHear, Ticked, Began, Updated, Decided, Finished, Aborted, Sent, Took, Reported, Heard};
 ghost use Rattle.world_model.specs.lines.Lines.{wish_of};
 ghost use Rattle.world_model.specs.rules.Event as event;
 ghost use Rattle.world_model.specs.lines.Places.{IsOther};
@@ -121,8 +121,8 @@ impl<C: Crdt, D: Disk + Drop> Sites<C, D> {
         lead: u8,
         updates: &UpdateList<C::Effect>,
     ) -> Result<u64, DurableError>
-        requires { MayAsk (types_of C.laws C.spells D.state) self.old at (AskPrepare tx s.now lead updates.now) }
-        ensures { Calls (types_of C.laws C.spells D.state) self.old self.new Any at (AskPrepare tx s.now lead updates.now) (λ n e. e ≡ event.Prepared tx s.now lead updates.now n) result }
+        requires { MayAsk (types_of C.laws C.spells D.state) self.old at (AskPrepare tx s.now (led_by lead) updates.now) }
+        ensures { Calls (types_of C.laws C.spells D.state) self.old self.new Any at (AskPrepare tx s.now (led_by lead) updates.now) (λ n e. e ≡ event.Prepared tx s.now (led_by lead) updates.now n) result }
     {
         let i = index_of(at, self.sites, self.parts);
         self.partitions[i].prepare(self.alloc, tx, s, lead, updates)

@@ -5,6 +5,7 @@ use Rattle.partition_log.specs.Codec.{codec_of}
 use Rattle.partition_log.specs.Gates.{gates_of}
 use Rattle.partition_log.proofs.Reading.{first_within, refused}
 use Rattle.partition_log.specs.Damage.{AreRecords}
+use Rattle.log_recovery.specs.Told.{HasRead}
 use Rattle.partition_core.specs.Restarts.{unopened}
 use Rattle.partition_core.specs.Unfit.{IsUnfitAt}
 use Rattle.partition_core.specs.declared.restart.RestartError.TheVariants.{Damaged}
@@ -16,14 +17,14 @@ pub loop-place-init : goal.loop-place-init
 loop-place-init g c =
     let codec = codec_of g.C.Crdt.spells in
     let items = read_at_opening (gates_of c.args.log.now) in
-    subst (λ l. IsUnderway codec c.args.sites c.args.parts c.args.id items l c.new-recovery.result) (sym (c.into_iter-place-iterator.ensures.into_iter_gives ∙ c.payloads-place-items.ensures.read))
-    (underway_starts codec c.args.sites c.args.parts c.args.id items c.new-recovery.result c.payloads-place-items.ensures.within c.new-recovery.ensures)
+    subst (λ l. IsUnderway codec c.args.sites c.args.parts c.args.id c.last_ceiling-top.result items l c.new-recovery.result) (sym (c.into_iter-place-iterator.ensures.into_iter_gives ∙ c.payloads-place-items.ensures.read))
+    (underway_starts codec c.args.sites c.args.parts c.args.id c.last_ceiling-top.result items c.new-recovery.result c.payloads-place-items.ensures.within c.new-recovery.ensures)
 
 pub record_at-requires : goal.record_at-requires
 record_at-requires g c = first_within (codec_of g.C.Crdt.spells) (read_at_opening (gates_of c.args.log.now)) c.loop-place.place-iterator (c.in-Some.place, c.in-Some.payload.now) c.next.new.self c.in-Some.ensures.steps c.loop-place.invariant.so
 
 pub read-requires : goal.read-requires
-read-requires g c = let h = c.loop-place.invariant in (c.args.sites, c.args.parts, c.args.id, h.so.log, h.has)
+read-requires g c = let h = c.loop-place.invariant in (c.args.sites, c.args.parts, c.args.id, c.last_ceiling-top.result, h.so.log, h.has)
 
 pub returns-in_err-record-clause-damaged : goal.returns-in_err-record-clause-damaged
 returns-in_err-record-clause-damaged g c = λ at e.
@@ -41,20 +42,24 @@ returns-then-not-branch-clause-damaged g c = λ at e.
     ⊎_elim
     (λ no_record. inl no_record)
     (λ k. inr (subst (λ n. (l : List _) × AreRecords codec items l × IsUnfitAt codec c.args.sites c.args.parts c.args.id l n) (sym k.0)
-    (underway_stops codec c.args.sites c.args.parts c.args.id items c.loop-place.place-iterator (c.in-Some.place, c.in-Some.payload.now) c.next.new.self c.in_ok-record.record c.loop-place.recovery c.in-Some.ensures.steps c.in_ok-record.ensures.spelled c.in_ok-record.ensures.bytes h
-    c.read.new.self c.in_ok-read.field-0 c.if-not-branch.true (c.in_ok-read.ensures c.args.sites c.args.parts c.args.id h.so.log h.has) k.1.0 k.1.1 c.requires.placed.0 c.requires.placed.1)))
+    (underway_stops codec c.args.sites c.args.parts c.args.id c.last_ceiling-top.result items c.loop-place.place-iterator (c.in-Some.place, c.in-Some.payload.now) c.next.new.self c.in_ok-record.record c.loop-place.recovery c.in-Some.ensures.steps c.in_ok-record.ensures.spelled c.in_ok-record.ensures.bytes h
+    c.read.new.self c.in_ok-read.field-0 c.if-not-branch.true (c.in_ok-read.ensures c.args.sites c.args.parts c.args.id c.last_ceiling-top.result h.so.log h.has) c.last_ceiling-top.ensures k.1.0 k.1.1 c.requires.placed.0 c.requires.placed.1)))
     (c.damage_of.ensures.damaged at told)
 
 pub loop-place-preserved : goal.loop-place-preserved
 loop-place-preserved g c =
     let h = c.loop-place.invariant in
-    underway_more (codec_of g.C.Crdt.spells) c.args.sites c.args.parts c.args.id (read_at_opening (gates_of c.args.log.now)) c.loop-place.place-iterator (c.in-Some.place, c.in-Some.payload.now) c.next.new.self c.in_ok-record.record c.loop-place.recovery c.in-Some.ensures.steps c.in_ok-record.ensures.spelled c.in_ok-record.ensures.bytes h
-    c.read.new.self c.in_ok-read.field-0 c.if-not-branch.false (c.in_ok-read.ensures c.args.sites c.args.parts c.args.id h.so.log h.has)
+    underway_more (codec_of g.C.Crdt.spells) c.args.sites c.args.parts c.args.id c.last_ceiling-top.result (read_at_opening (gates_of c.args.log.now)) c.loop-place.place-iterator (c.in-Some.place, c.in-Some.payload.now) c.next.new.self c.in_ok-record.record c.loop-place.recovery c.in-Some.ensures.steps c.in_ok-record.ensures.spelled c.in_ok-record.ensures.bytes h
+    c.read.new.self c.in_ok-read.field-0 c.if-not-branch.false (c.in_ok-read.ensures c.args.sites c.args.parts c.args.id c.last_ceiling-top.result h.so.log h.has)
 
 pub finish-requires : goal.finish-requires
-finish-requires g c = let h = c.loop-place.invariant in (c.args.sites, c.args.parts, c.args.id, h.so.log, h.has)
+finish-requires g c = let h = c.loop-place.invariant in (c.args.sites, c.args.parts, c.args.id, c.last_ceiling-top.result, h.so.log, h.has)
 
 pub returns-clause-told : goal.returns-clause-told
 returns-clause-told g c =
-    let read = underway_ends (codec_of g.C.Crdt.spells) c.args.sites c.args.parts c.args.id (read_at_opening (gates_of c.args.log.now)) c.loop-place.place-iterator c.loop-place.recovery c.in-None.ensures.steps.0 c.loop-place.invariant in
-    (read.0, read.1, c.in_ok-finish.ensures c.args.sites c.args.parts c.args.id read.0 read.2)
+    let read = underway_ends (codec_of g.C.Crdt.spells) c.args.sites c.args.parts c.args.id c.last_ceiling-top.result (read_at_opening (gates_of c.args.log.now)) c.loop-place.place-iterator c.loop-place.recovery c.in-None.ensures.steps.0 c.loop-place.invariant in (
+      read.0,
+      read.1,
+      c.in_ok-finish.ensures c.args.sites c.args.parts c.args.id read.0
+          (subst (λ n. HasRead c.args.sites c.args.parts c.args.id n read.0 c.loop-place.recovery) (c.last_ceiling-top.ensures read.0 read.1) read.2),
+    )

@@ -3,7 +3,7 @@ use Rattle.site_vector.specs.declared.ids.TxId.{TxId}
 use Rattle.crdt_core.specs.KindsOf.{kinds_of}
 use Rattle.world_model.specs.declared.command.Mode.{Mode}
 use Rattle.world_model.specs.lines.Lines.{wish_of}
-use Rattle.world_model.specs.rules.Event.{AskBegin, Began, Event}
+use Rattle.world_model.specs.rules.Event.{AskBegin, Began}
 use Rattle.partition_core.specs.Answers.{Answered}
 use Rattle.partition_core.specs.Begun.{begun}
 use Rattle.partition_core.specs.Steps.{Anything}

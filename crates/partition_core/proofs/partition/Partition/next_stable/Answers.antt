@@ -1,6 +1,5 @@
 use Rattle.std.proofs.Common.{◌<◌, ◌+◌, ap, sym, ◌∙◌, refl, arith}
 use Rattle.crdt_core.specs.Log.{end_of_time}
-use Rattle.partition_core.specs.Leases.{leased}
 use Rattle.partition_core.proofs.Leasing.{unchanged, opened_to}
 use Rattle.partition_core.proofs.Bounding.{stable_as}
 use Rattle.partition_core.proofs.StableBegins.{stable_behind, stable_at_end, stable_begins}

@@ -12,10 +12,17 @@ pub make-requires-clause-most_site : goal.make-requires-clause-most_site
 make-requires-clause-most_site g c = (fits (types_of g.C.Crdt.laws g.C.Crdt.spells (fused_state g.D.Disk.state)) c.args.sites c.args.parts c.args.disks.items c.loop-disk.disk-iterator.rest.items c.in-Some.disk c.next.new.self.rest.items c.loop-disk.partitions.items c.loop-disk.part c.in-Some.ensures.steps.0 c.loop-disk.invariant).most_site
 
 pub returns-in-Err-clause-failed : goal.returns-in-Err-clause-failed
-returns-in-Err-clause-failed g c = (
-  fits (types_of g.C.Crdt.laws g.C.Crdt.spells (fused_state g.D.Disk.state)) c.args.sites c.args.parts c.args.disks.items c.loop-disk.disk-iterator.rest.items c.in-Some.disk c.next.new.self.rest.items c.loop-disk.partitions.items c.loop-disk.part c.in-Some.ensures.steps.0 c.loop-disk.invariant,
-  (c.in-Some.disk, c.loop-disk.invariant.front, c.next.new.self.rest.items, c.loop-disk.invariant.split ∙ ap (λ xs. c.loop-disk.invariant.front ++ xs) c.in-Some.ensures.steps.0, c.loop-disk.invariant.as_many ∙ sym c.loop-disk.invariant.index, c.in-Err.ensures.goes_on, c.in-Err.ensures.failed),
-)
+returns-in-Err-clause-failed g c = record {
+  place = fits (types_of g.C.Crdt.laws g.C.Crdt.spells (fused_state g.D.Disk.state)) c.args.sites c.args.parts c.args.disks.items c.loop-disk.disk-iterator.rest.items c.in-Some.disk c.next.new.self.rest.items c.loop-disk.partitions.items c.loop-disk.part c.in-Some.ensures.steps.0 c.loop-disk.invariant;
+  given = c.in-Some.disk;
+  front = c.loop-disk.invariant.front;
+  more = c.next.new.self.rest.items;
+  split = c.loop-disk.invariant.split ∙ ap (λ xs. c.loop-disk.invariant.front ++ xs) c.in-Some.ensures.steps.0;
+  index = c.loop-disk.invariant.as_many ∙ sym c.loop-disk.invariant.index;
+  goes_on = c.in-Err.ensures.goes_on;
+  left = c.in-Err.ensures.left;
+  failed = c.in-Err.ensures.failed;
+}
 
 pub loop-disk-preserved : goal.loop-disk-preserved
 loop-disk-preserved g c = filling_more (types_of g.C.Crdt.laws g.C.Crdt.spells (fused_state g.D.Disk.state)) c.args.sites c.args.parts c.args.disks.items c.loop-disk.disk-iterator.rest.items c.in-Some.disk c.next.new.self.rest.items c.loop-disk.partitions.items c.loop-disk.part c.in-Some.ensures.steps.0 c.loop-disk.invariant c.unarmed.result c.unarmed.ensures.left (c.unarmed.ensures.sound ∙ c.in-Ok.ensures.goes_on.sound) (same_place c.in-Ok.partition c.unarmed.result c.unarmed.ensures.same c.in-Ok.ensures.place) (λ end rest. c.unarmed.ensures.stands _ (c.in-Ok.ensures.new end rest)) c.add.new.list.items c.in_ok-add-in-Ok.ensures c.next_part-part.result
