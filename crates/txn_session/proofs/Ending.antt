@@ -13,7 +13,7 @@ use Rattle.world_model.specs.declared.commit.What.TheVariants as what
 use Rattle.world_model.specs.declared.commit.Next.TheVariants as next
 use Rattle.world_model.specs.declared.step.Step.{Step}
 use Rattle.world_model.specs.declared.step.Step.TheVariants as step
-use Rattle.world_model.specs.rules.Event.{Ask, AskPrepare, AskDecide, AskFinish, AskAbort, Event, Decided, Refused, Cut, attempt}
+use Rattle.world_model.specs.rules.Event.{Ballot, led_by, Ask, AskPrepare, AskDecide, AskFinish, AskAbort, Event, Decided, Refused, Cut, attempt}
 use Rattle.world_model.specs.rules.Dependency.{IsKnownJoin}
 use Rattle.world_model.specs.lines.Places.{IsPlace}
 use Rattle.world_model.specs.rules.Lines.{step_shown}
@@ -43,10 +43,10 @@ module _ {E : Type 0} (sites parts : ℕ) (name : List ℕ) (site : ℕ) (txn : 
   ps = participants parts txn.updates
 
   -- what is next may be asked, at a participant
-  pub may_prepare : (cs : ℕ) (cv : List ℕ) (lead : ℕ) → lead ≡ first_or_zero ps → (g : Going) (p : ℕ) → next_step cs cv g ≡ what.Prepare p → HoldsGoing site ps txn.tx run g → IsPlace sites parts (at_site site p) × IsAllowed sites parts run (Some txn.by) (at_site site p) (AskPrepare txn.tx txn.s lead (updates_of parts txn.updates p))
+  pub may_prepare : (cs : ℕ) (cv : List ℕ) (lead : ℕ) → lead ≡ first_or_zero ps → (g : Going) (p : ℕ) → next_step cs cv g ≡ what.Prepare p → HoldsGoing site ps txn.tx run g → IsPlace sites parts (at_site site p) × IsAllowed sites parts run (Some txn.by) (at_site site p) (AskPrepare txn.tx txn.s (led_by lead) (updates_of parts txn.updates p))
   may_prepare cs cv lead first (Preparing done (q ∷ left) n) p e h =
       let is : q ≡ p = cc in
-      subst (λ k. IsPlace sites parts (at_site site k) × IsAllowed sites parts run (Some txn.by) (at_site site k) (AskPrepare txn.tx txn.s lead (updates_of parts txn.updates k))) is
+      subst (λ k. IsPlace sites parts (at_site site k) × IsAllowed sites parts run (Some txn.by) (at_site site k) (AskPrepare txn.tx txn.s (led_by lead) (updates_of parts txn.updates k))) is
       (participant_place sites parts name site txn run t q (asked_among sites parts name site txn run t done q left n h), prepare_allowed sites parts name site txn run t done q left n h lead first)
   may_prepare cs cv lead first (Preparing [] [] n) p e h = absurd cc
   may_prepare cs cv lead first (Preparing (d ∷ ds) [] n) p e h = absurd cc
@@ -97,7 +97,7 @@ module _ {E : Type 0} (sites parts : ℕ) (name : List ℕ) (site : ℕ) (txn : 
 
 module _ {E : Type 0} (site : ℕ) (ps : List ℕ) (t : TxId) (run : List (Call E)) (by : ℕ) (cs : ℕ) (cv : List ℕ) where
   -- and whatever answers it, the commit stands as it holds
-  pub after_prepare : (g : Going) (p : ℕ) → next_step cs cv g ≡ what.Prepare p → HoldsGoing site ps t run g → (e : Event E) (s : List ℕ) (l : ℕ) (w : List (Upd E)) → asked_by (attempt e) ≡ AskPrepare t s l w → HoldsGoing site ps t (called by (at_site site p) e ∷ run) (after g (step_shown (entries run) (at_site site p) e)).0
+  pub after_prepare : (g : Going) (p : ℕ) → next_step cs cv g ≡ what.Prepare p → HoldsGoing site ps t run g → (e : Event E) (s : List ℕ) (l : Ballot) (w : List (Upd E)) → asked_by (attempt e) ≡ AskPrepare t s l w → HoldsGoing site ps t (called by (at_site site p) e ∷ run) (after g (step_shown (entries run) (at_site site p) e)).0
   after_prepare (Preparing done (q ∷ left) n) p e h x s l w a =
       let is : q ≡ p = cc in
       subst (λ k. HoldsGoing site ps t (called by (at_site site k) x ∷ run) (after (Preparing done (q ∷ left) n) (step_shown (entries run) (at_site site k) x)).0) is (prepare_step site ps t run by q x s l w done left n a h)
@@ -251,31 +251,31 @@ module _ {S E T P : Type 0} (kinds : Kinds S E) (sees : T → P → List (Call E
     makes_step w e m = subst (λ d. MakesStep sees numbers store pass run s (stepped s answer) answer d (next_of s.doing)) (sym is) (subst (λ x. MakesStep sees numbers store pass run s (stepped s answer) answer (Ending txn lead commit) x) (sym e) m)
 
 module _ {S E T P : Type 0} (kinds : Kinds S E) (sees : T → P → List (Call E) → Type 0) (numbers : P → ℕ → Bool) (store : T) (pass : P) (s : SessionState E) (txn : Txn E) (lead : ℕ) (commit : Committing) (is : s.doing ≡ Ending txn lead commit) (legal : (r : List (Call E)) → sees store pass r → IsLegal kinds s.sites s.parts r) (held : HoldsNumber (numbers pass) s.doing) (run : List (Call E)) (h : Holds s run) (answer : Step) (p : ℕ) where
-  pub prepare_makes : next_of s.doing ≡ what.Prepare p → GoesOn sees numbers store pass run (Some txn.by) (at_site s.site p) (AskPrepare txn.tx txn.s lead (updates_of s.parts txn.updates p)) answer → MakesStep sees numbers store pass run s (stepped s answer) answer s.doing (next_of s.doing)
+  pub prepare_makes : next_of s.doing ≡ what.Prepare p → GoesOn sees numbers store pass run (Some txn.by) (at_site s.site p) (AskPrepare txn.tx txn.s (led_by lead) (updates_of s.parts txn.updates p)) answer → MakesStep sees numbers store pass run s (stepped s answer) answer s.doing (next_of s.doing)
   prepare_makes e goes =
       let number : Option ℕ = Some txn.by in
-      let ask : Ask E = AskPrepare txn.tx txn.s lead (updates_of s.parts txn.updates p) in
+      let ask : Ask E = AskPrepare txn.tx txn.s (led_by lead) (updates_of s.parts txn.updates p) in
       let b = base_end kinds sees numbers store pass s txn lead commit is legal held run h number (at_site s.site p) ask answer goes refl in
-      let g = after_prepare s.site (participants s.parts txn.updates) txn.tx (goes.more ++ run) goes.by commit.site commit.s commit.going p (next_is kinds sees numbers store pass s txn lead commit is (what.Prepare p) e) b.1.going goes.event txn.s lead (updates_of s.parts txn.updates p) goes.asked in
+      let g = after_prepare s.site (participants s.parts txn.updates) txn.tx (goes.more ++ run) goes.by commit.site commit.s commit.going p (next_is kinds sees numbers store pass s txn lead commit is (what.Prepare p) e) b.1.going goes.event txn.s (led_by lead) (updates_of s.parts txn.updates p) goes.asked in
       let m = ends_makes kinds sees numbers store pass s txn lead commit is legal held run h number (at_site s.site p) ask answer goes refl s.dependency (base_known kinds sees numbers store pass s txn lead commit is legal held run h number (at_site s.site p) ask answer goes refl) h.width (shown_going kinds sees numbers store pass s txn lead commit is legal held run h number (at_site s.site p) ask answer goes refl g) in
       makes_step kinds sees numbers store pass s txn lead commit is legal held run h number (at_site s.site p) ask answer goes refl (what.Prepare p) e (subst (λ x. Makes sees numbers store pass run s x number (at_site s.site p) ask answer) (one_step kinds sees numbers store pass s txn lead commit is legal held run h number (at_site s.site p) ask answer goes refl (what.Prepare p) e refl) m)
 
 module _ {S E T P : Type 0} (kinds : Kinds S E) (sees : T → P → List (Call E) → Type 0) (numbers : P → ℕ → Bool) (store : T) (pass : P) (s : SessionState E) (txn : Txn E) (lead : ℕ) (commit : Committing) (is : s.doing ≡ Ending txn lead commit) (legal : (r : List (Call E)) → sees store pass r → IsLegal kinds s.sites s.parts r) (held : HoldsNumber (numbers pass) s.doing) (run : List (Call E)) (h : Holds s run) (answer : Step) (p : ℕ) where
   -- and once it waited
-  pub prepare_later : (reads : ℕ → Type 0) → next_of s.doing ≡ what.Prepare p → Later (numbers pass) reads (entry txn.s s.site) txn.by (at_site s.site p) (AskPrepare txn.tx txn.s lead (updates_of s.parts txn.updates p)) (is_late answer) (λ rest. GoesOn sees numbers store pass rest (Some txn.by) (at_site s.site p) (AskPrepare txn.tx txn.s lead (updates_of s.parts txn.updates p)) answer) run
+  pub prepare_later : (reads : ℕ → Type 0) → next_of s.doing ≡ what.Prepare p → Later (numbers pass) reads (entry txn.s s.site) txn.by (at_site s.site p) (AskPrepare txn.tx txn.s (led_by lead) (updates_of s.parts txn.updates p)) (is_late answer) (λ rest. GoesOn sees numbers store pass rest (Some txn.by) (at_site s.site p) (AskPrepare txn.tx txn.s (led_by lead) (updates_of s.parts txn.updates p)) answer) run
       → StepsLater sees numbers reads store pass run s (stepped s answer) answer s.doing (next_of s.doing)
   prepare_later reads e x =
-      let ask : Ask E = AskPrepare txn.tx txn.s lead (updates_of s.parts txn.updates p) in
+      let ask : Ask E = AskPrepare txn.tx txn.s (led_by lead) (updates_of s.parts txn.updates p) in
       let both : ◌≡◌ {A = Doing E × What} (s.doing, next_of s.doing) (Ending txn lead commit, what.Prepare p) = (λ i. (is i, e i)) in
       subst (λ (w : Doing E × What). StepsLater sees numbers reads store pass run s (stepped s answer) answer w.0 w.1) (sym both)
       (goes_later kinds sees numbers store pass s legal held run h reads (entry txn.s s.site) txn.by (at_site s.site p) ask (is_late answer) (Some txn.by) answer (λ rest. MakesStep sees numbers store pass rest s (stepped s answer) answer (Ending txn lead commit) (what.Prepare p))
       (λ rest hr goes. subst (λ (w : Doing E × What). MakesStep sees numbers store pass rest s (stepped s answer) answer w.0 w.1) both (prepare_makes kinds sees numbers store pass s txn lead commit is legal held rest hr answer p e goes))
       x)
 
-  pub prepare_waits : (reads : ℕ → Type 0) → next_of s.doing ≡ what.Prepare p → Later (numbers pass) reads (entry txn.s s.site) txn.by (at_site s.site p) (AskPrepare txn.tx txn.s lead (updates_of s.parts txn.updates p)) false (λ rest. Stays sees numbers store pass rest) run → StepWaits sees numbers reads store pass run s s s.doing (next_of s.doing)
+  pub prepare_waits : (reads : ℕ → Type 0) → next_of s.doing ≡ what.Prepare p → Later (numbers pass) reads (entry txn.s s.site) txn.by (at_site s.site p) (AskPrepare txn.tx txn.s (led_by lead) (updates_of s.parts txn.updates p)) false (λ rest. Stays sees numbers store pass rest) run → StepWaits sees numbers reads store pass run s s s.doing (next_of s.doing)
   prepare_waits reads e x =
       let both : ◌≡◌ {A = Doing E × What} (s.doing, next_of s.doing) (Ending txn lead commit, what.Prepare p) = (λ i. (is i, e i)) in
-      subst (λ (w : Doing E × What). StepWaits sees numbers reads store pass run s s w.0 w.1) (sym both) (waits_later kinds sees numbers store pass s legal held run h reads (entry txn.s s.site) txn.by (at_site s.site p) (AskPrepare txn.tx txn.s lead (updates_of s.parts txn.updates p)) x)
+      subst (λ (w : Doing E × What). StepWaits sees numbers reads store pass run s s w.0 w.1) (sym both) (waits_later kinds sees numbers store pass s legal held run h reads (entry txn.s s.site) txn.by (at_site s.site p) (AskPrepare txn.tx txn.s (led_by lead) (updates_of s.parts txn.updates p)) x)
 
 module _ {S E T P : Type 0} (kinds : Kinds S E) (sees : T → P → List (Call E) → Type 0) (numbers : P → ℕ → Bool) (store : T) (pass : P) (s : SessionState E) (txn : Txn E) (lead : ℕ) (commit : Committing) (is : s.doing ≡ Ending txn lead commit) (legal : (r : List (Call E)) → sees store pass r → IsLegal kinds s.sites s.parts r) (held : HoldsNumber (numbers pass) s.doing) (run : List (Call E)) (h : Holds s run) (answer : Step) (p : ℕ) where
   pub finish_makes : (c : List ℕ) → next_of s.doing ≡ what.Finish p c → GoesOn sees numbers store pass run None (at_site s.site p) (AskFinish txn.tx c) answer → MakesStep sees numbers store pass run s (stepped s answer) answer s.doing (next_of s.doing)
@@ -342,7 +342,7 @@ module _ {E : Type 0} (s : SessionState E) (txn : Txn E) (lead : ℕ) (commit : 
   step_is : (w : What) → next_of s.doing ≡ w → next_step commit.site commit.s commit.going ≡ w
   step_is w e = sym (ap next_of is) ∙ e
 
-  pub prepare_may : next_of s.doing ≡ what.Prepare p → IsPlace s.sites s.parts (at_site s.site p) × IsAllowed s.sites s.parts run (Some txn.by) (at_site s.site p) (AskPrepare txn.tx txn.s lead (updates_of s.parts txn.updates p))
+  pub prepare_may : next_of s.doing ≡ what.Prepare p → IsPlace s.sites s.parts (at_site s.site p) × IsAllowed s.sites s.parts run (Some txn.by) (at_site s.site p) (AskPrepare txn.tx txn.s (led_by lead) (updates_of s.parts txn.updates p))
   prepare_may e = may_prepare s.sites s.parts s.name s.site txn run ended_by.0 commit.site commit.s lead ended_by.1.first commit.going p (step_is (what.Prepare p) e) ended_by.1.going
 
   pub decide_may : (c : List ℕ) → next_of s.doing ≡ what.Decide p c → IsPlace s.sites s.parts (at_site s.site p) × IsAllowed s.sites s.parts run (Some txn.by) (at_site s.site p) (AskDecide txn.tx c)

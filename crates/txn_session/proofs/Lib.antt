@@ -12,3 +12,4 @@ pub mod Waiting
 pub mod Repeating
 pub mod Outwaiting
 pub mod Ending
+mod NextPart

@@ -11,7 +11,7 @@ use Rattle.crdt_core.specs.KindsOf.{Kinds}
 use Rattle.world_model.specs.declared.step.Step.{Step}
 use Rattle.world_model.specs.declared.commit.What.{What}
 use Rattle.world_model.specs.declared.commit.What.TheVariants as what
-use Rattle.world_model.specs.rules.Event.{Ask, AskRead, AskUpdate, AskPrepare}
+use Rattle.world_model.specs.rules.Event.{led_by, Ask, AskRead, AskUpdate, AskPrepare}
 use Rattle.world_model.specs.rules.World.{is_begin, begun}
 use Rattle.txn_session.specs.Calls.{Call, called, entries, caller_of, touches, IsLegal, AreOthers, GoesOn, Changes, Stays}
 use Rattle.txn_session.specs.Session.{Txn, Doing, Idle, Open, Ending, SessionState, own_updates, updates_of, place_in}
@@ -98,7 +98,7 @@ module _ {E T P : Type 0} (sees : T → P → List (Call E) → Type 0) (numbers
   waits_update o op (Ending txn lead commit) w = w
 
   pub waits_step : (d : Doing E) (next : What) → Waits sees numbers store pass run s new → StepWaits sees numbers reads store pass run s new d next
-  waits_step (Ending txn lead commit) (what.Prepare p) w = none_once txn (place_in s p) (AskPrepare txn.tx txn.s lead (updates_of s.parts txn.updates p)) w
+  waits_step (Ending txn lead commit) (what.Prepare p) w = none_once txn (place_in s p) (AskPrepare txn.tx txn.s (led_by lead) (updates_of s.parts txn.updates p)) w
   waits_step d next w = w
 
   -- what isn't a vote doesn't wait

@@ -9,7 +9,7 @@ use Rattle.crdt_core.specs.declared.object.ObjectId.{ObjectId}
 use Rattle.crdt_core.specs.declared.operation.Op.{Op}
 use Rattle.crdt_core.specs.declared.record.Upd.{Upd}
 use Rattle.world_model.specs.lines.Places.{IsPlace, home}
-use Rattle.world_model.specs.rules.Event.{Ask, AskTick, AskRead, AskUpdate, AskPrepare}
+use Rattle.world_model.specs.rules.Event.{Ballot, Ask, AskTick, AskRead, AskUpdate, AskPrepare}
 use Rattle.world_model.specs.rules.Lines.{session_of}
 use Rattle.world_model.specs.rules.Plan.{update_count}
 use Rattle.world_model.proofs.Whole.{shown_begun}
@@ -104,8 +104,8 @@ module _ {E : Type 0} (sites parts by : ℕ) (at : PartId) (t : TxId) (v : List 
   pub update_owned : (who : List ℕ) (o : ObjectId) (own : List (Upd E)) (op : Op) (index : ℕ) (run : List (Call E)) → MayUpdate who o own op index run → (begun (entries run) t ≡ true) × (by ≡ caller_of run t)
   update_owned who o own op index run h = (shown_begun (entries run) (home t) h.0.may.0.who h.0.may.0.dependency t v h.0.may.0.begun, h.0.mine)
 
-  pub prepare_again : (l : ℕ) (w : List (Upd E)) (new old : List (Call E)) → Same new old t → IsAllowed sites parts old (Some by) at (AskPrepare t v l w) → IsAllowed sites parts new (Some by) at (AskPrepare t v l w)
+  pub prepare_again : (l : Ballot) (w : List (Upd E)) (new old : List (Call E)) → Same new old t → IsAllowed sites parts old (Some by) at (AskPrepare t v l w) → IsAllowed sites parts new (Some by) at (AskPrepare t v l w)
   prepare_again l w new old s h = prepare_still new old t s sites parts by at v l w h
 
-  pub prepare_owned : (l : ℕ) (w : List (Upd E)) (run : List (Call E)) → IsAllowed sites parts run (Some by) at (AskPrepare t v l w) → (begun (entries run) t ≡ true) × (by ≡ caller_of run t)
+  pub prepare_owned : (l : Ballot) (w : List (Upd E)) (run : List (Call E)) → IsAllowed sites parts run (Some by) at (AskPrepare t v l w) → (begun (entries run) t ≡ true) × (by ≡ caller_of run t)
   prepare_owned l w run h = (shown_begun (entries run) (home t) h.may.0.who h.may.0.dependency t v h.may.0.begun, h.mine)

@@ -10,7 +10,7 @@ use Rattle.site_vector.specs.Ids.{same_part, same_tx}
 use Rattle.site_vector.specs.Order.{same_tx_refl}
 use Rattle.site_vector.specs.Vector.{replaced}
 use Rattle.crdt_core.specs.declared.record.Upd.{Upd}
-use Rattle.world_model.specs.rules.Event.{Ask, AskPrepare, AskDecide, AskFinish, AskAbort, IsDown, IsGone, Event, Began, Updated, Prepared, Decided, Finished, Aborted, Refused, Cut, attempt, tried, voted, decide_tried, time_of}
+use Rattle.world_model.specs.rules.Event.{Ballot, led_by, Ask, AskPrepare, AskDecide, AskFinish, AskAbort, IsDown, IsGone, Event, Began, Updated, Prepared, Decided, Finished, Aborted, Refused, Cut, attempt, tried, voted, decide_tried, time_of}
 use Rattle.world_model.specs.lines.Places.{IsPlace}
 use Rattle.world_model.specs.rules.Plan.{commit_vector}
 use Rattle.world_model.specs.rules.World.{is_begin, lead_of, plan_of}
@@ -57,7 +57,7 @@ module _ {E : Type 0} (sites parts : ℕ) (name : List ℕ) (site : ℕ) (txn : 
     lead_number [] e = ap first_or_zero (sym e) ∙ sym (ap (λ q. q.part) (lead_is sites parts name site txn run t p left e))
     lead_number (x ∷ d) e = ap first_or_zero (sym e) ∙ sym (ap (λ q. q.part) (lead_is sites parts name site txn run t x (d ++ p ∷ left) e))
 
-    pub prepare_allowed : (lead : ℕ) → lead ≡ first_or_zero (participants parts txn.updates) → IsAllowed sites parts run (Some txn.by) (at_site site p) (AskPrepare txn.tx txn.s lead (updates_of parts txn.updates p))
+    pub prepare_allowed : (lead : ℕ) → lead ≡ first_or_zero (participants parts txn.updates) → IsAllowed sites parts run (Some txn.by) (at_site site p) (AskPrepare txn.tx txn.s (led_by lead) (updates_of parts txn.updates p))
     prepare_allowed lead first = record {
       may = (
         record { site = sym t.site_is; who = name; dependency = t.handed; begun = t.shown },
@@ -141,7 +141,7 @@ module _ {E : Type 0} where
         swap true false c = sym (or-false c)
 
     module _ (by : ℕ) (p : ℕ) where
-      pub prepare_step : (e : Event E) (s : List ℕ) (l : ℕ) (w : List (Upd E)) (done left : List ℕ) (n : ℕ) → asked_by (attempt e) ≡ AskPrepare t s l w → IsAsking site ps t run done (p ∷ left) n → HoldsGoing site ps t (called by (at_site site p) e ∷ run) (after (Preparing done (p ∷ left) n) (step_shown (entries run) (at_site site p) e)).0
+      pub prepare_step : (e : Event E) (s : List ℕ) (l : Ballot) (w : List (Upd E)) (done left : List ℕ) (n : ℕ) → asked_by (attempt e) ≡ AskPrepare t s l w → IsAsking site ps t run done (p ∷ left) n → HoldsGoing site ps t (called by (at_site site p) e ∷ run) (after (Preparing done (p ∷ left) n) (step_shown (entries run) (at_site site p) e)).0
       prepare_step (Prepared u v k x m) s l w done left n a h =
           let is : u ≡ t = cc in
           let me : same_tx u t ≡ true = ap (λ y. same_tx y t) is ∙ same_tx_refl t in

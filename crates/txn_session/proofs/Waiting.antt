@@ -13,7 +13,7 @@ use Rattle.crdt_core.specs.Objects.{same_object}
 use Rattle.world_model.specs.declared.step.Step.{Step}
 use Rattle.world_model.specs.lines.Places.{home, partitions, first_of}
 use Rattle.world_model.specs.rules.Asking.{asked_by}
-use Rattle.world_model.specs.rules.Event.{Ask, AskTick, AskRead, AskUpdate, AskPrepare, Event, Began, Updated, Prepared, Decided, Aborted, Refused, Refusal, ClockBehind, Cut, Entry, attempt, voted}
+use Rattle.world_model.specs.rules.Event.{Ballot, Ask, AskTick, AskRead, AskUpdate, AskPrepare, Event, Began, Updated, Prepared, Decided, Aborted, Refused, Refusal, ClockBehind, Cut, Entry, attempt, voted}
 use Rattle.world_model.specs.rules.Lines.{step_shown}
 use Rattle.world_model.specs.rules.Plan.{is_some_update}
 use Rattle.world_model.specs.rules.World.{begun, changes_of, lead_of}
@@ -97,7 +97,7 @@ module _ {E : Type 0} where
       mine = h.mine ∙ sym s.txn.caller;
     }
 
-    pub prepare_still : (by : ℕ) (at : PartId) (v : List ℕ) (l : ℕ) (w : List (Upd E)) → IsAllowed sites parts old (Some by) at (AskPrepare t v l w) → IsAllowed sites parts new (Some by) at (AskPrepare t v l w)
+    pub prepare_still : (by : ℕ) (at : PartId) (v : List ℕ) (l : Ballot) (w : List (Upd E)) → IsAllowed sites parts old (Some by) at (AskPrepare t v l w) → IsAllowed sites parts new (Some by) at (AskPrepare t v l w)
     prepare_still by at v l w h = record {
       may = (
         record { site = h.may.0.site; who = h.may.0.who; dependency = h.may.0.dependency; begun = s.txn.shown (home t) (Began h.may.0.who h.may.0.dependency t v) h.may.0.begun },

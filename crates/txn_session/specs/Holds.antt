@@ -10,7 +10,7 @@ use Rattle.crdt_core.specs.Placing.{place_of}
 use Rattle.world_model.specs.declared.commit.What.{What}
 use Rattle.world_model.specs.declared.commit.What.TheVariants as what
 use Rattle.world_model.specs.declared.step.Step.{Step}
-use Rattle.world_model.specs.rules.Event.{Ask, AskRead, AskUpdate, AskPrepare, AskDecide, AskFinish, AskAbort, Began, tried, voted, decide_tried, gave_up, is_decided, time_of, WasShown}
+use Rattle.world_model.specs.rules.Event.{led_by, Ask, AskRead, AskUpdate, AskPrepare, AskDecide, AskFinish, AskAbort, Began, tried, voted, decide_tried, gave_up, is_decided, time_of, WasShown}
 use Rattle.world_model.specs.rules.Dependency.{IsKnownJoin}
 use Rattle.world_model.specs.lines.Places.{IsPlace, home}
 use Rattle.world_model.specs.rules.Plan.{updates_at, update_count}
@@ -150,7 +150,7 @@ module _ {E : Type 0} where
 
     -- the step that is next at the end of a transaction was made
     abbrev pub MakesStep : S → P → List (Call E) → SessionState E → SessionState E → Step → Doing E → What → Type 0
-    MakesStep store pass run old new answer (Ending txn lead commit) (what.Prepare p) = Makes store pass run old new (Some txn.by) (place_in old p) (AskPrepare txn.tx txn.s lead (updates_of old.parts txn.updates p)) answer
+    MakesStep store pass run old new answer (Ending txn lead commit) (what.Prepare p) = Makes store pass run old new (Some txn.by) (place_in old p) (AskPrepare txn.tx txn.s (led_by lead) (updates_of old.parts txn.updates p)) answer
     MakesStep store pass run old new answer (Ending txn lead commit) (what.Decide p c) = Makes store pass run old new (Some txn.by) (place_in old p) (AskDecide txn.tx c) answer
     MakesStep store pass run old new answer (Ending txn lead commit) (what.Finish p c) = Makes store pass run old new None (place_in old p) (AskFinish txn.tx c) answer
     MakesStep store pass run old new answer (Ending txn lead commit) (what.Abort p) = Makes store pass run old new (Some txn.by) (place_in old p) (AskAbort txn.tx) answer

@@ -8,3 +8,4 @@ pub mod Fields
 pub mod Holds
 pub mod Opens
 pub mod SessionWaits
+pub mod NextPart

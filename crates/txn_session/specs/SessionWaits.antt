@@ -8,7 +8,7 @@ use Rattle.crdt_core.specs.Placing.{place_of}
 use Rattle.world_model.specs.declared.commit.What.{What}
 use Rattle.world_model.specs.declared.commit.What.TheVariants as what
 use Rattle.world_model.specs.declared.step.Step.{Step}
-use Rattle.world_model.specs.rules.Event.{Ask, AskRead, AskUpdate, AskPrepare}
+use Rattle.world_model.specs.rules.Event.{led_by, Ask, AskRead, AskUpdate, AskPrepare}
 use Rattle.txn_session.specs.Calls.{Call}
 use Rattle.txn_session.specs.Session.{Txn, Doing, Open, Ending, SessionState, own_updates, updates_of, place_in}
 use Rattle.txn_session.specs.Holds.{MakesRead, MakesUpdate, MakesStep, Waits}
@@ -43,9 +43,9 @@ module _ {E S P : Type 0} (sees : S → P → List (Call E) → Type 0) (numbers
 
   -- the step that is next at the end of a transaction was made; a vote alone waits
   abbrev pub StepsLater : Step → Doing E → What → Type 0
-  StepsLater answer (Ending txn lead commit) (what.Prepare p) = Once txn (place_in old p) (AskPrepare txn.tx txn.s lead (updates_of old.parts txn.updates p)) (is_late answer) (λ rest. MakesStep sees numbers store pass rest old new answer (Ending txn lead commit) (what.Prepare p))
+  StepsLater answer (Ending txn lead commit) (what.Prepare p) = Once txn (place_in old p) (AskPrepare txn.tx txn.s (led_by lead) (updates_of old.parts txn.updates p)) (is_late answer) (λ rest. MakesStep sees numbers store pass rest old new answer (Ending txn lead commit) (what.Prepare p))
   StepsLater answer doing other = MakesStep sees numbers store pass run old new answer doing other
 
   abbrev pub StepWaits : Doing E → What → Type 0
-  StepWaits (Ending txn lead commit) (what.Prepare p) = Once txn (place_in old p) (AskPrepare txn.tx txn.s lead (updates_of old.parts txn.updates p)) false (λ rest. Waits sees numbers store pass rest old new)
+  StepWaits (Ending txn lead commit) (what.Prepare p) = Once txn (place_in old p) (AskPrepare txn.tx txn.s (led_by lead) (updates_of old.parts txn.updates p)) false (λ rest. Waits sees numbers store pass rest old new)
   StepWaits doing other = Waits sees numbers store pass run old new

@@ -4,6 +4,7 @@ ghost use Rattle.txn_session.specs.Opens.{refusal_of_update, told_of};
 ghost use Rattle.txn_session.specs.Session.{Idle, phase_in, phase_of, place_in, is_idle, is_open, can_abort, has_step, moved_to};
 ghost use Rattle.world_model.specs.declared.commit.What.TheVariants as what;
 ghost use Rattle.txn_session.specs.Holds.{Holds, Mays, Makes, MakesUpdate, MakesRead, MakesStep, TellsStep, Waits, next_of};
+ghost use Rattle.txn_session.specs.NextPart.{part_asked, first_part};
 ghost use Rattle.crdt_core.specs.Placing.{place_of};
 ghost use Rattle.world_model.specs.lines.Lines.{wish_of};
 ghost use Rattle.world_model.specs.lines.Places.{IsPlace};
@@ -795,6 +796,21 @@ impl<C: Crdt> Session<C> {
         }
     }
 
+    /// The number of the partition of its site that the next step of the transaction's end asks, if it asks one. The end of
+    /// an open transaction is its commit.
+    pub fn next_part(&self) -> Option<u8>
+        ensures { result ≡ part_asked (next_of (begun_end self.now).doing) }
+    {
+        match self.stage {
+            Stage::Idle => None,
+            Stage::Open => {
+                let (list, count) = participants_of::<C>(self.updates.as_slice(), self.parts);
+                first_part(&list[..count])
+            }
+            Stage::Ending => part_asked(&self.commit.next()),
+        }
+    }
+
     /// Whether a step of the transaction's end is left.
     pub fn has_step(&self) -> bool
         ensures { result ≡ has_step self.now.doing }
@@ -803,6 +819,29 @@ impl<C: Crdt> Session<C> {
             Stage::Ending => !self.commit.is_done(),
             _ => false,
         }
+    }
+}
+
+/// The first of the numbers.
+fn first_part(numbers: &[u8]) -> Option<u8>
+    ensures { result ≡ first_part numbers.now }
+{
+    match numbers {
+        [first, ..] => Some(*first),
+        [] => None,
+    }
+}
+
+/// The number of the partition that a step asks.
+fn part_asked(next: &What) -> Option<u8>
+    ensures { result ≡ part_asked next.now }
+{
+    match next {
+        What::Prepare(part) => Some(*part),
+        What::Decide(part, _) => Some(*part),
+        What::Finish(part, _) => Some(*part),
+        What::Abort(part) => Some(*part),
+        What::Done => None,
     }
 }
 

@@ -3,7 +3,7 @@ ghost use Rattle.crdt_core.specs.KindsOf.{kinds_of, fits_kind};
 ghost use Rattle.crdt_core.specs.Log.{end_of_time};
 ghost use Rattle.site_vector.specs.declared.ids.PartId.{PartId as Place};
 ghost use Rattle.world_model.specs.declared.step.Step.{Step as Line};
-ghost use Rattle.world_model.specs.rules.Event.{AskTick, AskBegin, AskRead, AskUpdate, AskPrepare, AskDecide, AskFinish, AskAbort, AskMessage, AskTake, AskReport, AskHear, Sent, Reported, sent_count, report_count};
+ghost use Rattle.world_model.specs.rules.Event.{led_by, AskTick, AskBegin, AskRead, AskUpdate, AskPrepare, AskDecide, AskFinish, AskAbort, AskMessage, AskTake, AskReport, AskHear, Sent, Reported, sent_count, report_count};
 ghost use Rattle.world_model.specs.rules.Plan.{update_count};
 ghost use Rattle.world_model.specs.rules.Lines.{session_of};
 ghost use Rattle.world_model.specs.lines.Lines.{wish_of};
@@ -165,13 +165,13 @@ pub trait Store<C: Crdt> {
         updates: &UpdateList<C::Effect>,
     ) -> (Self::Pass, Result<Step, AllocError>)
         requires may { MayCall sees numbers (sites self.old) (parts self.old) self.old pass (Some by) at (AskPrepare
-            tx s.now lead updates.now) }
+            tx s.now (led_by lead) updates.now) }
         ensures stays { stays self.old self.new }
         ensures same { (n : ℕ) → numbers result.0 n ≡ numbers pass n }
         ensures tells { IfOk result.1 (λ line. tells self.old self.new at line) }
         ensures ok { IfOk result.1 (λ r. (run : List (Call C.Effect)) → sees self.old pass run →
-            IsAllowed (sites self.old) (parts self.old) run (Some by) at (AskPrepare tx s.now lead updates.now) →
-            GoesOn sees numbers self.new result.0 run (Some by) at (AskPrepare tx s.now lead updates.now) r) }
+            IsAllowed (sites self.old) (parts self.old) run (Some by) at (AskPrepare tx s.now (led_by lead) updates.now) →
+            GoesOn sees numbers self.new result.0 run (Some by) at (AskPrepare tx s.now (led_by lead) updates.now) r) }
         ensures err { IfErr result.1 (λ e. (run : List (Call C.Effect)) → sees self.old pass run →
             Stays sees numbers self.new result.0 run) };
 
@@ -413,15 +413,15 @@ pub trait Store<C: Crdt> {
         updates: &UpdateList<C::Effect>,
         clock: &K,
     ) -> (Self::Pass, Result<Step, AllocError>)
-        requires may { MayCall sees numbers (sites self.old) (parts self.old) self.old pass (Some by) at (AskPrepare tx s.now lead updates.now) }
+        requires may { MayCall sees numbers (sites self.old) (parts self.old) self.old pass (Some by) at (AskPrepare tx s.now (led_by lead) updates.now) }
         ensures stays { stays self.old self.new }
         ensures same { (n : ℕ) → numbers result.0 n ≡ numbers pass n }
         ensures ok { IfOk result.1 (λ r. (run : List (Call C.Effect)) → sees self.old pass run →
-            IsAllowed (sites self.old) (parts self.old) run (Some by) at (AskPrepare tx s.now lead updates.now) →
-            Later (numbers result.0) (K.shows clock.now) (entry s.now at.site) by at (AskPrepare tx s.now lead updates.now) (is_late r) (λ whole. GoesOn sees numbers self.new result.0 whole (Some by) at (AskPrepare tx s.now lead updates.now) r) run) }
+            IsAllowed (sites self.old) (parts self.old) run (Some by) at (AskPrepare tx s.now (led_by lead) updates.now) →
+            Later (numbers result.0) (K.shows clock.now) (entry s.now at.site) by at (AskPrepare tx s.now (led_by lead) updates.now) (is_late r) (λ whole. GoesOn sees numbers self.new result.0 whole (Some by) at (AskPrepare tx s.now (led_by lead) updates.now) r) run) }
         ensures err { IfErr result.1 (λ e. (run : List (Call C.Effect)) → sees self.old pass run →
-            IsAllowed (sites self.old) (parts self.old) run (Some by) at (AskPrepare tx s.now lead updates.now) →
-            Later (numbers result.0) (K.shows clock.now) (entry s.now at.site) by at (AskPrepare tx s.now lead updates.now) false (λ whole. Stays sees numbers self.new result.0 whole) run) }
+            IsAllowed (sites self.old) (parts self.old) run (Some by) at (AskPrepare tx s.now (led_by lead) updates.now) →
+            Later (numbers result.0) (K.shows clock.now) (entry s.now at.site) by at (AskPrepare tx s.now (led_by lead) updates.now) false (λ whole. Stays sees numbers self.new result.0 whole) run) }
     {
         let (pass, answer) = self.prepare(pass, at, by, tx, s, lead, updates);
         match settled(answer) {

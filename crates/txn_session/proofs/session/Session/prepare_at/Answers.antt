@@ -1,6 +1,6 @@
 use Rattle.std.proofs.Common.{Some, ◌≡◌, refl, sym, ap, ◌∙◌, subst}
 use Rattle.world_model.specs.declared.commit.What.TheVariants as what
-use Rattle.world_model.specs.rules.Event.{AskPrepare}
+use Rattle.world_model.specs.rules.Event.{led_by, AskPrepare}
 use Rattle.txn_session.specs.Session.{SessionState, Txn, updates_of}
 use Rattle.txn_session.specs.Fields.{doing_in}
 use Rattle.txn_session.specs.Opens.{EndsAs}
@@ -20,10 +20,10 @@ prepare-pass-requires g c =
     let k = is_ending _ c.args.self.now v f.stage txn f.lead f.commit refl (what.Prepare c.args.part) c.requires.next refl in
     let od = doing_end _ c.args.self.now v f.stage txn f.lead f.commit refl k in
     let et = ap (λ (w : SessionState g.row.C-Effect.Denot). w.site) v in
-    let ea : (AskPrepare f.tx f.s f.lead c.in-Ok.updates) ≡ (AskPrepare f.tx f.s f.lead (updates_of c.args.self.now.parts items c.args.part)) = ap (λ l. AskPrepare f.tx f.s f.lead l) (c.in-Ok.ensures.part ∙ (ap (λ l. updates_of f.parts l c.args.part) (sym same) ∙ ap (λ (w : SessionState g.row.C-Effect.Denot). updates_of w.parts items c.args.part) v)) in
+    let ea : (AskPrepare f.tx f.s (led_by f.lead) c.in-Ok.updates) ≡ (AskPrepare f.tx f.s (led_by f.lead) (updates_of c.args.self.now.parts items c.args.part)) = ap (λ l. AskPrepare f.tx f.s (led_by f.lead) l) (c.in-Ok.ensures.part ∙ (ap (λ l. updates_of f.parts l c.args.part) (sym same) ∙ ap (λ (w : SessionState g.row.C-Effect.Denot). updates_of w.parts items c.args.part) v)) in
     let m = c.requires.holds in
     let q = prepare_may c.args.self.now txn f.lead f.commit od m.run m.holds c.args.part c.requires.next in
-    record { may = may_here g.S.Store.sees g.S.Store.numbers g.S.Store.sites g.S.Store.parts c.args.store.now c.args.store.now c.args.pass c.args.pass c.args.self.now c.requires.sites c.requires.parts (Some f.by) f.site c.args.part et (AskPrepare f.tx f.s f.lead c.in-Ok.updates) (AskPrepare f.tx f.s f.lead (updates_of c.args.self.now.parts items c.args.part)) ea (number_held (g.S.Store.numbers c.args.pass) c.args.self.now.doing txn f.lead f.commit od m.held) m.run m.seen q.0 q.1 }
+    record { may = may_here g.S.Store.sees g.S.Store.numbers g.S.Store.sites g.S.Store.parts c.args.store.now c.args.store.now c.args.pass c.args.pass c.args.self.now c.requires.sites c.requires.parts (Some f.by) f.site c.args.part et (AskPrepare f.tx f.s (led_by f.lead) c.in-Ok.updates) (AskPrepare f.tx f.s (led_by f.lead) (updates_of c.args.self.now.parts items c.args.part)) ea (number_held (g.S.Store.numbers c.args.pass) c.args.self.now.doing txn f.lead f.commit od m.held) m.run m.seen q.0 q.1 }
 
 pub returns-in-Ok-answer-clause-stepped : goal.returns-in-Ok-answer-clause-stepped
 returns-in-Ok-answer-clause-stepped g c =
@@ -60,12 +60,12 @@ returns-in-Ok-answer-clause-steps g c run seen h =
     let k = is_ending _ c.args.self.now v f.stage txn f.lead f.commit refl (what.Prepare c.args.part) c.requires.next refl in
     let od = doing_end _ c.args.self.now v f.stage txn f.lead f.commit refl k in
     let et = ap (λ (w : SessionState g.row.C-Effect.Denot). w.site) v in
-    let ea : (AskPrepare f.tx f.s f.lead c.in-Ok.updates) ≡ (AskPrepare f.tx f.s f.lead (updates_of c.args.self.now.parts items c.args.part)) = ap (λ l. AskPrepare f.tx f.s f.lead l) (c.in-Ok.ensures.part ∙ (ap (λ l. updates_of f.parts l c.args.part) (sym same) ∙ ap (λ (w : SessionState g.row.C-Effect.Denot). updates_of w.parts items c.args.part) v)) in
+    let ea : (AskPrepare f.tx f.s (led_by f.lead) c.in-Ok.updates) ≡ (AskPrepare f.tx f.s (led_by f.lead) (updates_of c.args.self.now.parts items c.args.part)) = ap (λ l. AskPrepare f.tx f.s (led_by f.lead) l) (c.in-Ok.ensures.part ∙ (ap (λ l. updates_of f.parts l c.args.part) (sym same) ∙ ap (λ (w : SessionState g.row.C-Effect.Denot). updates_of w.parts items c.args.part) v)) in
     let legal = legal_after _ g.S.Store.sees g.S.Store.sites g.S.Store.parts g.S.Store.stays g.met.S.Store.legal g.met.S.Store.keeps c.args.store.now c.prepare-pass.new.self c.prepare-pass.ensures.stays c.prepare-pass.result.0 c.args.self.now.sites c.args.self.now.parts c.requires.sites c.requires.parts in
     let held = held_after g.S.Store.numbers c.args.pass c.prepare-pass.result.0 c.prepare-pass.ensures.same c.args.self.now.doing c.requires.holds.held in
     let st = stepped_is _ c.args.self.now v f.stage txn f.lead f.commit c.answer-next.new.self od k c.in-Ok-answer.step c.answer-next.ensures.commit (what.Prepare c.args.part) c.requires.next refl f.dependency refl in
     let q = prepare_may c.args.self.now txn f.lead f.commit od run h c.args.part c.requires.next in
-    let goes = goes_here g.S.Store.sees g.S.Store.numbers g.S.Store.sites g.S.Store.parts c.args.store.now c.prepare-pass.new.self c.args.pass c.prepare-pass.result.0 c.args.self.now c.requires.sites c.requires.parts (Some f.by) f.site c.args.part et (AskPrepare f.tx f.s f.lead c.in-Ok.updates) (AskPrepare f.tx f.s f.lead (updates_of c.args.self.now.parts items c.args.part)) ea c.in-Ok-answer.step (if_ok _ _ _ c.in-Ok-answer.is c.prepare-pass.ensures.ok) run seen q.1 in
+    let goes = goes_here g.S.Store.sees g.S.Store.numbers g.S.Store.sites g.S.Store.parts c.args.store.now c.prepare-pass.new.self c.args.pass c.prepare-pass.result.0 c.args.self.now c.requires.sites c.requires.parts (Some f.by) f.site c.args.part et (AskPrepare f.tx f.s (led_by f.lead) c.in-Ok.updates) (AskPrepare f.tx f.s (led_by f.lead) (updates_of c.args.self.now.parts items c.args.part)) ea c.in-Ok-answer.step (if_ok _ _ _ c.in-Ok-answer.is c.prepare-pass.ensures.ok) run seen q.1 in
     subst (λ (w : SessionState g.row.C-Effect.Denot). MakesStep g.S.Store.sees g.S.Store.numbers c.prepare-pass.new.self c.prepare-pass.result.0 run c.args.self.now w c.in-Ok-answer.step c.args.self.now.doing (next_of c.args.self.now.doing)) (sym st)
     (prepare_makes _ g.S.Store.sees g.S.Store.numbers c.prepare-pass.new.self c.prepare-pass.result.0 c.args.self.now txn f.lead f.commit od legal held run h c.in-Ok-answer.step c.args.part c.requires.next goes)
 
