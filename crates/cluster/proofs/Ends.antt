@@ -16,7 +16,7 @@ use Rattle.world_model.specs.declared.step.Step.{Step}
 use Rattle.world_model.specs.rules.Asking.{asked_by}
 use Rattle.world_model.specs.commands.CommitSteps.{Going, Preparing, Finishing, Aborting, given_up, next_step, is_done, after}
 use Rattle.world_model.specs.lines.Dependency.{IsOwnPast}
-use Rattle.world_model.specs.rules.Event.{Ask, AskPrepare, AskDecide, AskFinish, AskAbort, AskReport, IsDown, Event, Began, Updated, Decided, Opened, Refused, Cut, Entry, attempt, WasShown}
+use Rattle.world_model.specs.rules.Event.{led_by, Ask, AskPrepare, AskDecide, AskFinish, AskAbort, AskReport, IsDown, Event, Began, Updated, Decided, Opened, Refused, Cut, Entry, attempt, WasShown}
 use Rattle.world_model.specs.lines.Lines.{Line, Wish}
 use Rattle.world_model.specs.rules.Lines.{call_asked, step_shown, session_of}
 use Rattle.world_model.specs.events.Dependency.{begins_for, is_of}
@@ -138,7 +138,7 @@ module _ {E : Type 0} where
 
   -- the call of a step
   abbrev pub ask_for : ℕ → Txn E → ℕ → What → Ask E
-  ask_for parts txn lead (what.Prepare p) = AskPrepare txn.tx txn.s lead (updates_of parts txn.updates p)
+  ask_for parts txn lead (what.Prepare p) = AskPrepare txn.tx txn.s (led_by lead) (updates_of parts txn.updates p)
   ask_for parts txn lead (what.Decide p c) = AskDecide txn.tx c
   ask_for parts txn lead (what.Finish p c) = AskFinish txn.tx c
   ask_for parts txn lead (what.Abort p) = AskAbort txn.tx

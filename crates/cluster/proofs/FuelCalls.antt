@@ -33,7 +33,7 @@ use Rattle.site_partitions.specs.Moves.{Moves}
 use Rattle.site_partitions.specs.Reaches.{Types, Reaches}
 use Rattle.site_partitions.proofs.Places.{index_is}
 use Rattle.cluster.specs.Faults.{TellsFault}
-use Rattle.cluster.specs.Fuel.{Burns, IsBrought, left_at, IsLit, IsFueled, Spent}
+use Rattle.cluster.specs.Fuel.{Burns, IsBrought, left_at, keep_at, IsLit, IsFueled, Spent}
 use Rattle.cluster.proofs.FuelBurns.{burns_less, burns_spent, taken_off}
 use Rattle.cluster.proofs.FuelLines.{lets_burn, is_arming, unwritten, fuel_call}
 use Rattle.cluster.proofs.FusedRuns.{is_of_restart, cut_shown, lit_call}
@@ -52,7 +52,7 @@ and_none true = refl
 and_none false = refl
 
 -- a place that the cluster has
-place_held : {E D : Type 0} (c : Held E D) (p : PartId) → holds_part c p ≡ true → IsPlace c.sites c.parts p
+pub place_held : {E D : Type 0} (c : Held E D) (p : PartId) → holds_part c p ≡ true → IsPlace c.sites c.parts p
 place_held c p h =
     let x = and_parts (holds_site c p.site) _ h in
     let site = and_parts (nat_le 1 p.site) _ x.0 in
@@ -83,6 +83,9 @@ module _ {S E D : Type 0} (w : Types S E D) (old new : Held E D) (at : PartId) (
 
   pub left_here : (k : Option ℕ) → (disk_in w.state m.after).left ≡ k → (other : Durable E D) → holds_part old at ≡ true → left_at w.state new at other ≡ k
   left_here k e other there = subst (λ (c : Held E D). left_at w.state c at other ≡ k) (sym m.changed) (at_set (λ t. (disk_in w.state t).left) (λ x y. y ≡ k) old.partitions (index_of old.parts at) m.before m.after m.there e other)
+
+  pub keep_here : (k : ℕ) → (disk_in w.state m.after).keep ≡ k → (other : Durable E D) → holds_part old at ≡ true → keep_at w.state new at other ≡ k
+  keep_here k e other there = subst (λ (c : Held E D). keep_at w.state c at other ≡ k) (sym m.changed) (at_set (λ t. (disk_in w.state t).keep) (λ x y. y ≡ k) old.partitions (index_of old.parts at) m.before m.after m.there e other)
 
   pub same_holds : (p : PartId) → holds_part new p ≡ holds_part old p
   same_holds p = λ i. (nat_le 1 p.site && nat_le p.site (m.same_sites i)) && (nat_le 1 p.part && nat_le p.part (m.same_parts i))

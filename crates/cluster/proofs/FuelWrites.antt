@@ -115,7 +115,7 @@ module _ {E : Type 0} where
     pub writes : (some : List (Entry E)) (p : PartState E) (e : Event E) → (can_write e ≡ true → (t : TxId) → pending ls at t ≡ true → log.pending p.log t ≡ true)
         → ((number : ℕ) (m : Message E) → e ≡ Took number m → bound ls at m.from ≡ entry p.bounds m.from) → IsBrought whole ls at e
         → (is_change ls at (step_shown some at e) || is_bringing whole ls at (call_of e) (step_shown some at e)) ≡ true → 1 ≤ length (records p e)
-    writes some p (Prepared t s l w n) waits bounds b h = one_last (lease_for p.log n) (Prepare t l n s w)
+    writes some p (Prepared t s l w n) waits bounds b h = one_last (lease_for p.log n) (Prepare t l.lead n s w)
     writes some p (Decided t c) waits bounds b h = changed whole ls at (call_of {E = E} (Decided t c)) (step.Decided at t c) refl (λ k. one_if (log.pending p.log t) (Decide t c) (waits refl t k)) h
     writes some p (Finished t c) waits bounds b h = changed whole ls at (call_of {E = E} (Finished t c)) (step.Finished at t) refl (λ k. one_if (log.pending p.log t) (Finish t c) (waits refl t k)) h
     writes some p (Aborted t own) waits bounds b h = omega arith

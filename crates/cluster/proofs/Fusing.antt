@@ -15,7 +15,7 @@ use Rattle.cluster.specs.Built.{is_of_post, is_of_fates, is_of_faults}
 use Rattle.cluster.specs.Fuel.{left_at, IsUnfiredAt, StaysUnarmed, SetsFuse}
 use Rattle.cluster.proofs.Ups.{there_now}
 use Rattle.world_model.specs.lines.Places.{IsPlace}
-use Rattle.cluster.proofs.FuelCalls.{at_set, left_here}
+use Rattle.cluster.proofs.FuelCalls.{at_set, keep_here, left_here, left_there, place_held}
 
 -- what is so whatever the value
 pub ever_ok : {A X : Type 0} {P : A → Type 0} (r : Result A X) → ((x : A) → P x) → IfOk r P
@@ -35,7 +35,11 @@ module _ {S E D : Type 0} (w : Types S E D) (old new : Held E D) (at : PartId) w
   unarmed m l other e = left_by (λ x y. x ≡ None → y ≡ None) m (λ h. l.left ∙ ap (λ o. fewer l.count o) h) other e
 
   pub armed : (k n : ℕ) → ArmsAt w old new at k n → SetsFuse w.state (command.Fuse at k n) old new
-  armed k n a there other = left_here w old new at a.moves (Some k) (ap (λ (d : DiskState). d.left) a.armed) other there
+  armed k n a there = record {
+    left = λ other. left_here w old new at a.moves (Some k) (ap (λ (d : DiskState). d.left) a.armed) other there;
+    keep = λ other. keep_here w old new at a.moves n (ap (λ (d : DiskState). d.keep) a.armed) other there;
+    others = λ q held apart other. left_there w old new at a.moves (place_held old at there) q held apart other;
+  }
 
   taken : RevivesAt w old new at → (other : Durable E D) → left_at w.state old at other ≡ Some 0 → left_at w.state new at other ≡ None
   taken v other e = left_by (λ x y. x ≡ Some 0 → y ≡ None) v.moves (λ h. ap (λ (d : DiskState). d.left) (v.fired h)) other e
@@ -63,7 +67,7 @@ taken_away w old mid new at v s there other e = s other (taken w old mid at v ot
 module _ {E D : Type 0} (state : D → DiskState) where
   -- where there is no such partition, nothing is asked
   pub no_fuse : (at : PartId) (k n : ℕ) (c : Held E D) → holds_part c at ≡ false → SetsFuse state (command.Fuse at k n) c c
-  no_fuse at k n c lacks there other = absurd (true≢false (sym there ∙ lacks))
+  no_fuse at k n c lacks there = absurd (true≢false (sym there ∙ lacks))
 
   pub no_restart : (at : PartId) (c : Held E D) → holds_part c at ≡ false → SetsFuse state (command.Restart at) c c
   no_restart at c lacks there other e = absurd (true≢false (sym there ∙ lacks))

@@ -1,6 +1,7 @@
 -- How the fuse of a partition's disk burns down, and that no fuse of a script lets more pass than it may.
 use Rattle.std.specs.Prelude.{◌≡◌, ◌≢◌, ◌⊎◌, ℕ, ◌+◌, ◌*◌, ◌≤◌, IsTrue, Bool, true, false, List, [], ◌∷◌, get_or, Option, None, Some, ⊤}
 use Rattle.site_vector.specs.declared.ids.PartId.{PartId}
+use Rattle.site_vector.specs.Ids.{same_part}
 use Rattle.disk_core.specs.States.{DiskState}
 use Rattle.world_model.specs.declared.command.Command.{Command}
 use Rattle.world_model.specs.declared.command.Command.TheVariants as command
@@ -65,6 +66,10 @@ module _ {E D : Type 0} (state : D → DiskState) where
   -- the calls that are left of the disk of the partition at this place, where one stands there
   abbrev pub left_at : Held E D → PartId → Durable E D → Option ℕ
   left_at c p other = (disk_in state (get_or c.partitions (index_of c.parts p) other)).left
+
+  -- how many bytes are kept of the write at which its fuse fires
+  abbrev pub keep_at : Held E D → PartId → Durable E D → ℕ
+  keep_at c p other = (disk_in state (get_or c.partitions (index_of c.parts p) other)).keep
 
   -- no fuse is on the disk of this partition, or one that has fired, and the partition is down
   abbrev pub IsDark : Durable E D → Type 0
@@ -138,9 +143,14 @@ IsUnfiredAt {E} {D} state c p = (t : Durable E D) → IsAt c p t → (disk_in st
 abbrev pub StaysUnarmed : {E D : Type 0} → (D → DiskState) → Held E D → Held E D → PartId → Type 0
 StaysUnarmed {E} {D} state old new p = (other : Durable E D) → left_at state old p other ≡ None → left_at state new p other ≡ None
 
--- What a command does to the fuse of a partition that is there: it is armed at the call that is named, and a restart takes one away that
--- has fired.
+-- the fuse of this partition is armed at this call and keeps so many bytes, and no other's changed
+pub record IsArmed {E D : Type 0} (state : D → DiskState) (old new : Held E D) (p : PartId) (k n : ℕ) : Type 0 where
+  pub left : (other : Durable E D) → left_at state new p other ≡ Some k
+  pub keep : (other : Durable E D) → keep_at state new p other ≡ n
+  pub others : (q : PartId) → holds_part old q ≡ true → same_part p q ≡ false → (other : Durable E D) → left_at state new q other ≡ left_at state old q other
+
+-- What a command does to the fuse of a partition that is there: it is armed as is named, and a restart takes one away that has fired.
 abbrev pub SetsFuse : {E D : Type 0} → (D → DiskState) → Command → Held E D → Held E D → Type 0
-SetsFuse {E} {D} state (command.Fuse p k n) old new = holds_part old p ≡ true → (other : Durable E D) → left_at state new p other ≡ Some k
+SetsFuse {E} {D} state (command.Fuse p k n) old new = holds_part old p ≡ true → IsArmed state old new p k n
 SetsFuse {E} {D} state (command.Restart p) old new = holds_part old p ≡ true → (other : Durable E D) → left_at state old p other ≡ Some 0 → left_at state new p other ≡ None
 SetsFuse state other old new = ⊤

@@ -83,6 +83,7 @@ impl<C: Crdt, D: Disk + Drop> Cluster<C, D> {
         requires blank { AreBlank (fused_state D.state) disks.items }
         ensures ok { IfOk result (λ steps. Applies (types_of C.laws C.spells (fused_state D.state)) self.old (Command.Cluster sites parts) steps.items self.new) }
         ensures sound { IfOk result (λ steps. AllSound (fused_state D.state) disks.items → AreSoundIn (fused_state D.state) self.new) }
+        ensures fused { IfOk result (λ steps. (number : ℕ) (run : Run) → StaysFused number (Command.Cluster sites parts) steps.items run) }
         ensures err { OnErr result (self.new ≡ None) }
         ensures failed { IfErr result (λ e. HandsBack (fused_state D.state) sites parts disks.items e) }
     {

@@ -6,6 +6,7 @@ use Rattle.world_model.specs.declared.command.Command.TheVariants as command
 use Rattle.cluster.specs.Post.{WholeState, new_post}
 use Rattle.cluster.specs.Reached.{Applies}
 use Rattle.site_partitions.specs.Sound.{AreSound}
+use Rattle.cluster.specs.Fused.{StaysFused}
 use Rattle.cluster.proofs.Applying.{cluster_made, none_reached, reached_on}
 use Rattle.cluster.proofs.cluster.Cluster.start.Goals as goal
 
@@ -26,3 +27,6 @@ returns-clause-ok g c =
 
 pub returns-clause-sound : goal.returns-clause-sound
 returns-clause-sound g c = λ all. subst (λ (w : WholeState g.row.C-Effect.Denot _). AreSound (fused_state g.D.Disk.state) w.live.sites) (sym c.new-2.ensures) (c.in_ok-made.ensures.sound all)
+
+pub returns-clause-fused : goal.returns-clause-fused
+returns-clause-fused g c = λ number run. subst (λ steps. StaysFused number (command.Cluster c.args.sites c.args.parts) steps run) (sym c.in_ok-steps.ensures) (λ fused. (tt, fused))
