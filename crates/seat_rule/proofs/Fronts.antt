@@ -76,6 +76,10 @@ module _ {T : Type 0} where
   below_back c [] ys b = b
   below_back c (x ∷ xs) ys b = below_back c xs ys b.1
 
+  pub below_front : (c : ℕ) (xs ys : List (Noted T)) → AllBelow c (xs ++ ys) → AllBelow c xs
+  below_front c [] ys b = tt
+  below_front c (x ∷ xs) ys b = (b.0, below_front c xs ys b.1)
+
   pub below_one : (c : ℕ) (xs : List (Noted T)) (e : Noted T) → AllBelow c xs → e.by < c → AllBelow c (xs ++ e ∷ [])
   below_one c [] e b h = (h, tt)
   below_one c (x ∷ xs) e b h = (b.0, below_one c xs e b.1 h)

@@ -1,4 +1,5 @@
 pub mod Lists
+pub mod Sizes
 pub mod Views
 pub mod Notes
 pub mod Laws

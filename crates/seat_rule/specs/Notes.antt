@@ -52,6 +52,11 @@ module _ {T : Type 0} where
     pub met : Within v.met v.past.lists
     pub met_closed : IsClosed v.met.lists
 
+  -- each number that is held here, and each that a step bears which was seen, was drawn
+  pub record AreDrawn (v : View T) : Type 0 where
+    pub held : (k : ℕ) → has v.past.numbers k ≡ true → k < v.drawn
+    pub borne : (p : ℕ) → AllBelow v.drawn (at v.past.lists p)
+
   -- with a step of p more
   abbrev pub with_note : (ℕ → List (Noted T)) → ℕ → Noted T → ℕ → List (Noted T)
   with_note logs p e = put logs p (logs p ++ e ∷ [])

@@ -3,6 +3,7 @@ ghost use Rattle.seat_rule.specs.declared.view.Noted.{Noted as Note};
 ghost use Rattle.seat_rule.specs.Lists.{has, at};
 ghost use Rattle.seat_rule.specs.Laws.{MayNote};
 ghost use Rattle.seat_rule.specs.Views.{IsNoted};
+ghost use Rattle.seat_rule.specs.Sizes.{places};
 
 use crate::rule::{Law, Seat, Traces};
 use crate::view::View;
@@ -32,10 +33,10 @@ pub fn append<T, F: Law<T>, E: Notes<T>>(
     seat: &mut Seat<T>,
     word: usize,
 ) -> u64
-    requires here { (seat.old.table_id ≡ traces.now.table_id) × (traces.now.table_id.words ≡ traces.now.key + 1) }
-    requires word { word < traces.now.key }
+    requires here { (seat.old.table_id ≡ traces.now.table_id) × (traces.now.table_id.words ≡ places traces.now.key + 1) }
+    requires word { word < places traces.now.key }
     requires writer { has seat.old.me.0.past.writes word ≡ true }
-    requires may { MayNote F.law E.like seat.old.me.0.past word }
+    requires may { MayNote (F.law traces.now.key) E.like seat.old.me.0.past word }
     requires room { length (at seat.old.me.0.past.lists word) + 1 < 2 ^ 64 }
     ensures same { (seat.new.table_id ≡ seat.old.table_id) × (seat.new.id ≡ seat.old.id) }
     ensures place { result ≡ length (at seat.old.me.0.past.lists word) }

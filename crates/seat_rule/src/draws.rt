@@ -1,6 +1,7 @@
 ghost use Rattle.std.specs.Prelude.{◌≡◌, ◌<◌, ◌+◌, ◌^◌, true};
 ghost use Rattle.seat_rule.specs.Lists.{has};
 ghost use Rattle.seat_rule.specs.Views.{taken};
+ghost use Rattle.seat_rule.specs.Sizes.{places};
 
 use crate::rule::{Law, Seat, Traces};
 use crate::view::View;
@@ -15,8 +16,8 @@ impl<T> Play<u8, View<T>> for Draws {
 
 /// Draws a caller's number that was never drawn. The last word is the number of partitions; one seat writes it.
 pub fn draw<T, F: Law<T>>(traces: &Traces<T, F>, seat: &mut Seat<T>, word: usize) -> u64
-    requires here { (seat.old.table_id ≡ traces.now.table_id) × (traces.now.table_id.words ≡ traces.now.key + 1) }
-    requires word { word ≡ traces.now.key }
+    requires here { (seat.old.table_id ≡ traces.now.table_id) × (traces.now.table_id.words ≡ places traces.now.key + 1) }
+    requires word { word ≡ places traces.now.key }
     requires writer { has seat.old.me.0.past.writes word ≡ true }
     requires room { seat.old.me.0.drawn + 1 < 2 ^ 64 }
     ensures same { (seat.new.table_id ≡ seat.old.table_id) × (seat.new.id ≡ seat.old.id) }

@@ -1,6 +1,7 @@
 ghost use Rattle.std.specs.Prelude.{◌≡◌, ◌+◌, ℕ, [], true, false};
 ghost use Rattle.seat_rule.specs.Lists.{has, front_of, behind};
 ghost use Rattle.seat_rule.specs.Views.{reader, without, first_writer, other_writer};
+ghost use Rattle.seat_rule.specs.Sizes.{places};
 
 use crate::rule::{Law, Seat, Traces};
 use crate::view::View;
@@ -35,7 +36,7 @@ impl<T> Split<View<T>> for Shares {
 
 /// A second seat, which has seen what this one has, and holds nothing.
 pub fn split<T, F: Law<T>>(traces: &Traces<T, F>, seat: &mut Seat<T>) -> Seat<T>
-    requires here { (seat.old.table_id ≡ traces.now.table_id) × (traces.now.table_id.words ≡ traces.now.key + 1) }
+    requires here { (seat.old.table_id ≡ traces.now.table_id) × (traces.now.table_id.words ≡ places traces.now.key + 1) }
     ensures same { (seat.new.table_id ≡ seat.old.table_id) × (seat.new.id ≡ seat.old.id) × (seat.new.me ≡ seat.old.me) }
     ensures second { (result.table_id ≡ seat.old.table_id) × (result.me ≡ (reader seat.old.me.0.past.lists [], [])) }
 {
@@ -44,7 +45,7 @@ pub fn split<T, F: Law<T>>(traces: &Traces<T, F>, seat: &mut Seat<T>) -> Seat<T>
 
 /// A second seat, which has seen what this one has, and takes all its numbers.
 pub fn hand<T, F: Law<T>>(traces: &Traces<T, F>, seat: &mut Seat<T>) -> Seat<T>
-    requires here { (seat.old.table_id ≡ traces.now.table_id) × (traces.now.table_id.words ≡ traces.now.key + 1) }
+    requires here { (seat.old.table_id ≡ traces.now.table_id) × (traces.now.table_id.words ≡ places traces.now.key + 1) }
     ensures same { (seat.new.table_id ≡ seat.old.table_id) × (seat.new.id ≡ seat.old.id)
         × (seat.new.me ≡ (without seat.old.me.0, seat.old.me.1)) }
     ensures second { (result.table_id ≡ seat.old.table_id)
@@ -55,7 +56,7 @@ pub fn hand<T, F: Law<T>>(traces: &Traces<T, F>, seat: &mut Seat<T>) -> Seat<T>
 
 /// A second seat, which takes the first of the traces that this one writes.
 pub fn split_writer<T, F: Law<T>>(traces: &Traces<T, F>, seat: &mut Seat<T>) -> Seat<T>
-    requires here { (seat.old.table_id ≡ traces.now.table_id) × (traces.now.table_id.words ≡ traces.now.key + 1) }
+    requires here { (seat.old.table_id ≡ traces.now.table_id) × (traces.now.table_id.words ≡ places traces.now.key + 1) }
     requires once { (q : ℕ) → has (front_of seat.old.me.0.past.writes) q ≡ true
         → has (behind seat.old.me.0.past.writes) q ≡ false }
     ensures same { (seat.new.table_id ≡ seat.old.table_id) × (seat.new.id ≡ seat.old.id)
