@@ -1,13 +1,14 @@
 -- What a desk's seat knows once a pass was joined into it, and what may then be asked of its partition.
-use Rattle.std.proofs.Common.{◌≡◌, ⊎_elim, inl, inr, ℕ, ◌+◌, ◌<◌, ◌≤◌, max, List, [], ◌∷◌, ◌++◌, length, Bool, true, refl, sym, ap, ◌∙◌, subst, arith, append-nil}
+use Rattle.std.proofs.Common.{◌≡◌, ⊎_elim, inl, inr, ℕ, ◌<◌, ◌≤◌, max, List, [], ◌∷◌, ◌++◌, length, Bool, true, refl, sym, ap, ◌∙◌, subst, arith, append-nil}
 use mathlib.Core.Option.{some}
 use lib.ListN.{get_elem?}
 use Rattle.site_vector.specs.declared.ids.PartId.{PartId}
 use Rattle.world_model.specs.lines.Places.{IsPlace}
 use Rattle.world_model.specs.rules.Asking.{MayCall}
-use Rattle.world_model.specs.rules.Event.{Ask, Entry, Refused, IsDown}
+use Rattle.world_model.specs.rules.Event.{Ask, Refused, IsDown}
 use Rattle.world_model.specs.rules.World.{IsWorldRun}
-use Rattle.world_model.specs.threads.Allowed.{HasBegun, MayStand}
+use Rattle.world_model.specs.threads.Allowed.{HasBegun}
+use Rattle.world_model.specs.threads.AreTraces.{AreTraces}
 use Rattle.world_model.specs.threads.Calls.{Call}
 use Rattle.world_model.specs.threads.Marks.{Mark, Stands, calls, entries_of}
 use Rattle.world_model.specs.threads.Merging.{all_places, merged}
@@ -24,7 +25,7 @@ use Rattle.seat_rule.specs.declared.view.Noted.{Noted}
 use Rattle.seat_rule.specs.declared.view.Past.{Past}
 use Rattle.seat_rule.specs.declared.view.View.{View}
 use Rattle.seat_rule.specs.Laws.{Heard}
-use Rattle.seat_rule.specs.Lists.{has, at, longest, total}
+use Rattle.seat_rule.specs.Lists.{has, at, longest}
 use Rattle.seat_rule.specs.Notes.{Knows, IsClosed}
 use Rattle.seat_rule.specs.Views.{reader, without, both}
 use Rattle.seat_rule.specs.world.Traces.{word_of, traces_of, IsLawful}
@@ -43,7 +44,7 @@ use Rattle.partition_lock.proofs.States.{is_made_at}
 
 module _ {E : Type 0} where
   -- of what two have seen
-  both_stamp : (xs ys : List (List (Noted (Told E)))) (a b : ℕ) → IsStamp xs a → IsStamp ys b → IsStamp (longest xs ys) (max b a)
+  pub both_stamp : (xs ys : List (List (Noted (Told E)))) (a b : ℕ) → IsStamp xs a → IsStamp ys b → IsStamp (longest xs ys) (max b a)
   both_stamp xs ys a b f g =
       let one = total_first xs ys in
       let two = total_second xs ys in
@@ -136,6 +137,8 @@ module _ {S E D : Type 0} (w : Types S E D) (sites parts : ℕ) (id : PartId) (s
           more = calls top;
           others = subst (λ ns. NoneBears (has ns) (calls top)) (sym numbers) (none_calls (has all.numbers) top others);
           seen = record {
+            state = f.lawful.state;
+            are = subst (λ ls. AreTraces w.kinds sites parts (traces_of event_of sites parts (at ls)) f.lawful.state) (sym same) f.lawful.are;
             marks = top ++ s.marks;
             order = subst (λ ls. IsOrderOf (traces_of event_of sites parts (at ls)) (top ++ s.marks)) (sym same) whole;
             is = is;
@@ -145,7 +148,7 @@ module _ {S E D : Type 0} (w : Types S E D) (sites parts : ℕ) (id : PartId) (s
 
     -- handed back with no step
     pub pass_still : (least : ℕ) (k : View (Told E) × List (ℕ × ℕ)) → IsLeast old.numbers least → k ≡ (reader all.lists all.numbers, []) → IsPass least seen k
-    pass_still least k l is = subst (IsPass least seen) (sym is) (record { writes = refl; lowest = subst (λ ns. IsLeast ns least) (sym f.numbers) l; slots = refl; stamped = f.stamp })
+    pass_still least k l is = subst (IsPass least seen) (sym is) (record { writes = refl; lowest = subst (λ ns. IsLeast ns least) (sym f.numbers) l; slots = refl; drawn = refl; stamped = f.stamp })
 
     pub desk_still : (me k : View (Told E) × List (ℕ × ℕ)) (entries : List Kept) → me.0.past ≡ all → me.1 ≡ [] → AreShown entries (at was.lists (word_of parts id)) → k ≡ (without me.0, me.1) → IsWriter sites parts id seen entries k
     desk_still me k entries same none shown is = subst (IsWriter sites parts id seen entries) (sym is) (record {

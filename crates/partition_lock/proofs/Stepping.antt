@@ -1,5 +1,5 @@
 -- A call's step is noted: the rule is kept, the pass's orders go on by it, and the partition stands for its longer trace.
-use Rattle.std.proofs.Common.{◌≡◌, ◌≢◌, ⊎_elim, ℕ, zero, suc, ◌+◌, ◌<◌, ◌≤◌, cond, Bool, true, false, List, [], ◌∷◌, ◌++◌, length, refl, sym, ap, ◌∙◌, subst, arith, Result, Ok, Err, Some}
+use Rattle.std.proofs.Common.{◌≡◌, ◌≢◌, ⊎_elim, ℕ, suc, ◌+◌, ◌≤◌, cond, true, false, List, [], ◌∷◌, ◌++◌, length, refl, sym, ap, ◌∙◌, subst, arith, Result, Ok, Err}
 use Rattle.std.specs.Prelude.{not}
 use Rattle.std.proofs.lemmas.Bool.{cases_eq, cond-true}
 use mathlib.Core.Option.{some}
@@ -14,7 +14,7 @@ use Rattle.world_model.specs.rules.Asking.{MayCall, asked_by, is_own_word}
 use Rattle.world_model.specs.rules.Event.{Ask, Aborted, Entry, Event, Refused, attempt, is_restart}
 use Rattle.world_model.specs.rules.Event as event
 use Rattle.world_model.specs.rules.Partition.{PartState, PartStep}
-use Rattle.world_model.specs.rules.Plan.{IsFit, IsNew}
+use Rattle.world_model.specs.rules.Plan.{IsFit}
 use Rattle.world_model.specs.rules.Traces.{IsTrace}
 use Rattle.world_model.proofs.Names.{off}
 use Rattle.world_model.specs.threads.Allowed.{HasBegun, MayStand}
@@ -28,14 +28,14 @@ use Rattle.partition_core.specs.declared.durable.DurableError.{DurableError}
 use Rattle.partition_core.specs.declared.durable.DurableError.TheVariants as call
 use Rattle.partition_core.specs.Answers.{cause}
 use Rattle.partition_core.specs.Durable.{Durable, StandsOn}
-use Rattle.partition_core.specs.Moments.{CallsOn, StepsOn, SteppedOn, IsCutOff}
+use Rattle.partition_core.specs.Moments.{CallsOn, StepsOn, IsCutOff}
 use Rattle.partition_core.specs.Tables.{IsSame}
 use Rattle.site_partitions.specs.Reaches.{Types, StandsAt, PutsEvent}
 use Rattle.seat_rule.specs.declared.view.Noted.{Noted}
 use Rattle.seat_rule.specs.declared.view.Past.{Past}
 use Rattle.seat_rule.specs.declared.view.View.{View}
 use Rattle.seat_rule.specs.Laws.{MayAdd, MayNote}
-use Rattle.seat_rule.specs.Lists.{has, at, lens, grown, total}
+use Rattle.seat_rule.specs.Lists.{has, at, lens, grown}
 use Rattle.seat_rule.specs.Views.{past, reader, without, noting}
 use Rattle.seat_rule.specs.world.Calls.{IsCallOf}
 use Rattle.seat_rule.specs.world.Traces.{word_of, is_place, mark_of, turned, traces_of, IsLawful}
@@ -47,11 +47,11 @@ use Rattle.partition_lock.specs.declared.told.Told.{Told}
 use Rattle.partition_lock.specs.declared.entry.Entry.{Entry as Kept}
 use Rattle.partition_lock.specs.Answers.{is_starved, IsTold, IsDone, Acts, Comes, Waits}
 use Rattle.partition_lock.specs.Desks.{AreShown, IsWriter, StandsFor}
-use Rattle.partition_lock.specs.Events.{event_of, of_event, is_told}
+use Rattle.partition_lock.specs.Events.{event_of, of_event}
 use Rattle.partition_lock.specs.Notes.{IsAnswer, IsStepOf}
-use Rattle.partition_lock.specs.Passes.{IsLeast, IsPass, IsStamp, Sees}
-use Rattle.partition_lock.proofs.Joined.{Joined, traces, view, part, left, top, others, none_calls, all_calls}
-use Rattle.partition_lock.proofs.Owners.{MayBy, entries_are, legal}
+use Rattle.partition_lock.specs.Passes.{IsLeast, IsPass, IsStamp}
+use Rattle.partition_lock.proofs.Joined.{Joined, view, left, none_calls, all_calls}
+use Rattle.partition_lock.proofs.Owners.{MayBy, legal}
 use Rattle.partition_lock.proofs.States.{one_step, state_is}
 use Rattle.partition_lock.proofs.Telling.{told_is, done_told, unbroken}
 
@@ -218,6 +218,8 @@ module _ {S E D : Type 0} (w : Types S E D) (sites parts : ℕ) (id : PartId) wh
             own_word = i.answers.own_word;
             tells = i.tells;
             seen = record {
+              state = next.state;
+              are = subst (λ ls. AreTraces w.kinds sites parts (traces_of event_of sites parts (at ls)) next.state) (sym lists) next.are;
               marks = mark_of event_of sites parts id n ∷ (above ++ base);
               order = subst (λ ls. IsOrderOf (traces_of event_of sites parts (at ls)) (mark_of event_of sites parts id n ∷ (above ++ base))) (sym lists) whole;
               is = is;
@@ -227,7 +229,7 @@ module _ {S E D : Type 0} (w : Types S E D) (sites parts : ℕ) (id : PartId) wh
 
       -- handed back with the step
       pub pass_after : (least : ℕ) (k : View (Told E) × List (ℕ × ℕ)) → IsLeast old.numbers least → k ≡ (reader (grown all.lists (word_of parts id) n) all.numbers, []) → IsPass least (seen + 1) k
-      pass_after least k l is = subst (IsPass least (seen + 1)) (sym is) (record { writes = refl; lowest = subst (λ ns. IsLeast ns least) (sym f.numbers) l; slots = refl; stamped = grown_stamp all.lists (word_of parts id) seen n f.stamp i.stamp_is })
+      pass_after least k l is = subst (IsPass least (seen + 1)) (sym is) (record { writes = refl; lowest = subst (λ ns. IsLeast ns least) (sym f.numbers) l; slots = refl; drawn = refl; stamped = grown_stamp all.lists (word_of parts id) seen n f.stamp i.stamp_is })
 
       pub desk_after : (v : View (Told E)) (k : View (Told E) × List (ℕ × ℕ)) (entries : List Kept) (x : Kept) → v.past ≡ all → AreShown entries (at was.lists (word_of parts id)) → x.stamp ≡ seen + 1 → x.caller ≡ by → k ≡ (without (noting v (word_of parts id) n), []) → IsWriter sites parts id (seen + 1) (entries ++ x ∷ []) k
       desk_after v k entries x same shown a b is = subst (IsWriter sites parts id (seen + 1) (entries ++ x ∷ [])) (sym (is ∙ ap (λ (p : Past (Told E)). (without (noting (record v { past = p }) (word_of parts id) n), [])) same)) (record {

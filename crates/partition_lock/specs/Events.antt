@@ -1,7 +1,6 @@
 -- The steps in traces as events of the world, and back.
-use Rattle.std.specs.Prelude.{ℕ, Bool, true, false, not}
-use Rattle.world_model.specs.lines.Lines.{Wish}
-use Rattle.world_model.specs.rules.Event.{Ask, AskTick, AskBegin, AskRead, AskUpdate, AskPrepare, AskDecide, AskFinish, AskAbort, AskMessage, AskTake, AskReport, AskHear, AskRestart, Event, is_restart}
+use Rattle.std.specs.Prelude.{Bool, true, false, not}
+use Rattle.world_model.specs.rules.Event.{led_by, Ask, AskTick, AskBegin, AskRead, AskUpdate, AskPrepare, AskDecide, AskFinish, AskAbort, AskMessage, AskTake, AskReport, AskHear, AskRestart, Event, is_restart}
 use Rattle.world_model.specs.rules.Event as event
 use Rattle.partition_lock.specs.declared.told.Asked.{Asked}
 use Rattle.partition_lock.specs.declared.told.Asked.TheVariants.{Tick, Begin, Update, Prepare, Decide, Finish, Abort, Message, Take, Report, Hear}
@@ -47,7 +46,7 @@ module _ {E : Type 0} where
   ask_of (Begin who past stable) = AskBegin who (record { past = past; stable = stable })
   ask_of (asked.Read t s o own) = AskRead t s o own
   ask_of (Update t s o own op) = AskUpdate t s o own op
-  ask_of (Prepare t s l w) = AskPrepare t s l w
+  ask_of (Prepare t s l w) = AskPrepare t s (led_by l) w
   ask_of (Decide t c) = AskDecide t c
   ask_of (Finish t c) = AskFinish t c
   ask_of (Abort t) = AskAbort t
@@ -62,7 +61,7 @@ module _ {E : Type 0} where
   of_ask (AskBegin who wish) = Begin who wish.past wish.stable
   of_ask (AskRead t s o own) = asked.Read t s o own
   of_ask (AskUpdate t s o own op) = Update t s o own op
-  of_ask (AskPrepare t s l w) = Prepare t s l w
+  of_ask (AskPrepare t s l w) = Prepare t s l.lead w
   of_ask (AskDecide t c) = Decide t c
   of_ask (AskFinish t c) = Finish t c
   of_ask (AskAbort t) = Abort t
@@ -77,7 +76,7 @@ module _ {E : Type 0} where
   done_of (Began who past stable t s) = event.Began who (record { past = past; stable = stable }) t s
   done_of (Updated t s o own op read u stamp) = event.Updated t s o own op read u stamp
   done_of (done.Read t s o own read v) = event.Read t s o own read v
-  done_of (Prepared t s l w n) = event.Prepared t s l w n
+  done_of (Prepared t s l w n) = event.Prepared t s (led_by l) w n
   done_of (Decided t c) = event.Decided t c
   done_of (Finished t c) = event.Finished t c
   done_of (Aborted t own) = event.Aborted t own
@@ -107,7 +106,7 @@ module _ {E : Type 0} where
   of_done (event.Began who wish t s) = Began who wish.past wish.stable t s
   of_done (event.Updated t s o own op read u stamp) = Updated t s o own op read u stamp
   of_done (event.Read t s o own read v) = done.Read t s o own read v
-  of_done (event.Prepared t s l w n) = Prepared t s l w n
+  of_done (event.Prepared t s l w n) = Prepared t s l.lead w n
   of_done (event.Decided t c) = Decided t c
   of_done (event.Finished t c) = Finished t c
   of_done (event.Aborted t own) = Aborted t own

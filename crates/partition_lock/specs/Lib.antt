@@ -4,3 +4,9 @@ pub mod Desks
 pub mod Answers
 pub mod Notes
 pub mod Agrees
+pub mod Calling
+pub mod Counters
+pub mod Openings
+pub mod Closings
+pub mod Doing
+pub mod Lines

@@ -4,6 +4,9 @@ use mathlib.Core.Option.{some}
 use lib.ListN.{get_elem?}
 use Rattle.atomic_table.specs.Seated.{TableId}
 use Rattle.crdt_core.specs.KindsOf.{Kinds}
+use Rattle.site_vector.specs.declared.ids.PartId.{PartId}
+use Rattle.world_model.specs.rules.Partition.{PartState}
+use Rattle.world_model.specs.threads.AreTraces.{AreTraces}
 use Rattle.world_model.specs.threads.Calls.{Call}
 use Rattle.world_model.specs.threads.Marks.{Mark, calls}
 use Rattle.world_model.specs.threads.Orders.{IsOrderOf}
@@ -26,8 +29,10 @@ pub record IsLeast (numbers : List ℕ) (n : ℕ) : Type 0 where
   pub least : (k : ℕ) → has numbers k ≡ true → n ≤ k
 
 module _ {E : Type 0} where
-  -- a pass with this past has seen these calls: all that it has seen, in some order in which each stands after all that its caller had seen
+  -- a pass with this past has seen these calls: all that it has seen, which are traces of a world, in some order in which each stands after all that its caller had seen
   pub record Sees {S : Type 0} (kinds : Kinds S E) (sites parts : ℕ) (p : Past (Told E)) (run : List (Call E)) : Type 0 where
+    pub state : PartId → PartState E
+    pub are : AreTraces kinds sites parts (traces_of event_of sites parts (at p.lists)) state
     pub marks : List (Mark E)
     pub order : IsOrderOf (traces_of event_of sites parts (at p.lists)) marks
     pub is : run ≡ calls marks
@@ -43,4 +48,5 @@ module _ {E : Type 0} where
     pub writes : me.0.past.writes ≡ []
     pub lowest : IsLeast me.0.past.numbers least
     pub slots : me.1 ≡ []
+    pub drawn : me.0.drawn ≡ 0
     pub stamped : IsStamp me.0.past.lists stamp

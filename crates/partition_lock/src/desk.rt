@@ -10,6 +10,7 @@ use std::alloc::Global;
 use std::marker::{Model, PhantomData};
 
 /// A partition under its lock, with the entries of its steps and the seat of its trace's writer.
+#[derive(Drop)]
 pub struct Desk<C: Crdt, D: Disk + Drop, J: Naming> {
     pub(crate) alloc: Global,
     pub(crate) id: PartId,

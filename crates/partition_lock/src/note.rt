@@ -1,7 +1,8 @@
-ghost use Rattle.std.specs.Prelude.{◌≡◌, ◌<◌, ◌+◌, ◌^◌, length, true};
+ghost use Rattle.std.specs.Prelude.{◌≡◌, ◌<◌, ◌+◌, ◌*◌, ◌^◌, length, true};
 ghost use Rattle.crdt_core.specs.KindsOf.{kinds_of};
 ghost use Rattle.seat_rule.specs.Laws.{MayNote};
 ghost use Rattle.seat_rule.specs.Lists.{has, at};
+ghost use Rattle.seat_rule.specs.Sizes.{places, size};
 ghost use Rattle.seat_rule.specs.Views.{IsNoted};
 ghost use Rattle.seat_rule.specs.world.Traces.{IsLawful};
 ghost use Rattle.site_partitions.specs.Reaches.{types_of, PutsEvent};
@@ -25,7 +26,7 @@ pub(crate) fn note<
     K: PartitionCall<C, D>,
     N: Notes<Told<C::Effect>>,
 >(
-    traces: &Traces<Told<C::Effect>, WorldLaw<C, D, J>>,
+    traces: &Traces<Told<C::Effect>, WorldLaw<C, D>>,
     seat: &mut Seat<Told<C::Effect>>,
     word: usize,
     id: PartId,
@@ -35,13 +36,13 @@ pub(crate) fn note<
     answer: &Result<K::Out, DurableError>,
     partition: &DurablePartition<C, D>,
 )
-    requires here { (seat.old.table_id ≡ traces.now.table_id) × (traces.now.table_id.words ≡ traces.now.key + 1) }
-    requires word { word < traces.now.key }
+    requires here { (seat.old.table_id ≡ traces.now.table_id) × (traces.now.table_id.words ≡ places traces.now.key + 1) × (traces.now.key ≡ size J.sites J.parts) }
+    requires word { word < J.sites * J.parts }
     requires writer { has seat.old.me.0.past.writes word ≡ true }
     requires may { MayNote (IsLawful event_of J.sites J.parts (kinds_of C.laws) (PutsEvent (types_of C.laws C.spells D.state))) N.like seat.old.me.0.past word }
     requires room { length (at seat.old.me.0.past.lists word) + 1 < 2 ^ 64 }
     ensures same { (seat.new.table_id ≡ seat.old.table_id) × (seat.new.id ≡ seat.old.id) }
     ensures noted { IsNoted N.like word seat.old.me seat.new.me }
 {
-    append::<Told<C::Effect>, WorldLaw<C, D, J>, N>(traces, seat, word);
+    append::<Told<C::Effect>, WorldLaw<C, D>, N>(traces, seat, word);
 }

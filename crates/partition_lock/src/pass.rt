@@ -7,6 +7,7 @@ use seat_rule::Seat;
 use std::marker::{Model, PhantomData};
 
 /// What its holder has seen, and the numbers that it calls by.
+#[derive(Drop)]
 pub struct Pass<C: Crdt, J: Naming> {
     pub(crate) seat: Seat<Told<C::Effect>>,
     /// The greatest stamp that it has seen.

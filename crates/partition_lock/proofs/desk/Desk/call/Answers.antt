@@ -1,14 +1,13 @@
 use Rattle.std.proofs.Common.{rules, ◌≡◌, ◌+◌, ℕ, List, true, refl, sym, ap, ◌∙◌, subst, Some, arith, [], ◌∷◌, ◌++◌, length}
 use Rattle.crdt_core.specs.KindsOf.{kinds_of}
 use Rattle.site_partitions.specs.Reaches.{types_of, PutsEvent}
-use Rattle.world_model.specs.threads.Calls.{Call, entries}
+use Rattle.world_model.specs.threads.Calls.{entries}
 use Rattle.txn_session.specs.Calls.{IsAllowed}
 use Rattle.seat_rule.specs.declared.view.View.{View}
 use Rattle.seat_rule.specs.declared.view.Past.{Past}
 use Rattle.seat_rule.specs.Laws.{Heard}
 use Rattle.seat_rule.specs.Lists.{has, at}
 use Rattle.seat_rule.specs.world.Traces.{word_of, IsLawful}
-use Rattle.seat_rule.proofs.Parting.{parts_lawful}
 use Rattle.partition_lock.specs.declared.told.Told.{Told}
 use Rattle.partition_lock.specs.Events.{event_of}
 use Rattle.partition_lock.specs.Passes.{Sees}
@@ -19,7 +18,7 @@ use Rattle.partition_lock.specs.Passes.{IsPass}
 use Rattle.seat_rule.specs.Lists.{grown}
 use Rattle.partition_lock.specs.declared.entry.Entry.{Entry}
 use Rattle.partition_lock.specs.Answers.{IsTold}
-use Rattle.partition_lock.specs.Answers.{Comes}
+use Rattle.partition_lock.specs.Answers.{Comes, Waits}
 use Rattle.partition_lock.specs.Notes.{IsStepOf}
 use Rattle.seat_rule.specs.Laws.{MayNote}
 use Rattle.world_model.specs.threads.Marks.{entries_of}
@@ -27,9 +26,6 @@ use Rattle.partition_lock.proofs.Joined.{Joined, joined, left, view, waits, pass
 use Rattle.partition_lock.proofs.Owners.{may_by, entries_are}
 use Rattle.partition_lock.proofs.Stepping.{stands_as, starved_same, shown_length, acts, pass_after, desk_after, may_note, comes_none, comes_some}
 use Rattle.partition_lock.proofs.desk.Desk.call.Goals as goal
-
-pub look-requires-clause-parts : goal.look-requires-clause-parts
-look-requires-clause-parts g c = parts_lawful event_of g.J.Naming.sites g.J.Naming.parts (kinds_of g.C.Crdt.laws) (PutsEvent (types_of g.C.Crdt.laws g.C.Crdt.spells g.D.Disk.state))
 
 pub make-answer-requires-clause-asked : goal.make-answer-requires-clause-asked
 make-answer-requires-clause-asked g c =
@@ -75,6 +71,16 @@ returns-then-starved-clause-comes g c run s a given =
     let old = c.pass.inside.seat.me.0.past in
     let f : Joined types g.J.Naming.sites g.J.Naming.parts c.self.inside.id c.max-seen.result was old me.0.past × (me.1 ≡ []) = joined types g.J.Naming.sites g.J.Naming.parts c.self.inside.id c.max-seen.result c.self.inside.seat.me.0 c.pass.inside.seat.me.0 c.self.inside.seat.me.1 c.pass.inside.seat.me.1 c.self.inside.stamp c.pass.inside.stamp c.pass.inside.least c.self.inside.entries.items me i.3 c.pass.invariant.1 (search rules) (c.look.ensures.same.2 ∙ c.join.ensures.both) (subst (λ (m : (View (Told g.row.C-Effect.Denot) × List (ℕ × ℕ))). Heard (IsLawful event_of g.J.Naming.sites g.J.Naming.parts (kinds_of g.C.Crdt.laws) (PutsEvent types)) m.0) (sym c.look.ensures.same.2) c.look.ensures.heard) in
     subst (λ (p : Past (Told g.row.C-Effect.Denot)). Comes (kinds_of g.C.Crdt.laws) g.J.Naming.sites g.J.Naming.parts p c.hand-seat.result.me.0.past run c.args.by c.args.self.now (g.K.PartitionCall.ask c.args.call.now) (g.K.PartitionCall.shows c.args.call.now) c.make-answer.result) c.pass.view_is (subst (λ at. Comes (kinds_of g.C.Crdt.laws) g.J.Naming.sites g.J.Naming.parts old c.hand-seat.result.me.0.past run c.args.by at (g.K.PartitionCall.ask c.args.call.now) (g.K.PartitionCall.shows c.args.call.now) c.make-answer.result) c.self.view_is (comes_none (kinds_of g.C.Crdt.laws) g.J.Naming.sites g.J.Naming.parts old c.hand-seat.result.me.0.past run c.args.by c.self.inside.id (g.K.PartitionCall.ask c.args.call.now) (g.K.PartitionCall.shows c.args.call.now) c.make-answer.result (search rules) (waits types g.J.Naming.sites g.J.Naming.parts c.self.inside.id c.max-seen.result was old me.0.past f.0 c.hand-seat.result.me.0.past (ap (λ (m : (View (Told g.row.C-Effect.Denot) × List (ℕ × ℕ))). m.0.past.lists) c.hand-seat.ensures.second.1) (ap (λ (m : (View (Told g.row.C-Effect.Denot) × List (ℕ × ℕ))). m.0.past.numbers) c.hand-seat.ensures.second.1) run (subst (λ (p : Past (Told g.row.C-Effect.Denot)). Sees (kinds_of g.C.Crdt.laws) g.J.Naming.sites g.J.Naming.parts p run) (sym c.pass.view_is) s))))
+
+pub returns-then-starved-clause-waits : goal.returns-then-starved-clause-waits
+returns-then-starved-clause-waits g c starves run s =
+    let types = types_of g.C.Crdt.laws g.C.Crdt.spells g.D.Disk.state in
+    let i = c.self.invariant in
+    let me = c.look.new.seat.me in
+    let was = c.self.inside.seat.me.0.past in
+    let old = c.pass.inside.seat.me.0.past in
+    let f : Joined types g.J.Naming.sites g.J.Naming.parts c.self.inside.id c.max-seen.result was old me.0.past × (me.1 ≡ []) = joined types g.J.Naming.sites g.J.Naming.parts c.self.inside.id c.max-seen.result c.self.inside.seat.me.0 c.pass.inside.seat.me.0 c.self.inside.seat.me.1 c.pass.inside.seat.me.1 c.self.inside.stamp c.pass.inside.stamp c.pass.inside.least c.self.inside.entries.items me i.3 c.pass.invariant.1 (search rules) (c.look.ensures.same.2 ∙ c.join.ensures.both) (subst (λ (m : (View (Told g.row.C-Effect.Denot) × List (ℕ × ℕ))). Heard (IsLawful event_of g.J.Naming.sites g.J.Naming.parts (kinds_of g.C.Crdt.laws) (PutsEvent types)) m.0) (sym c.look.ensures.same.2) c.look.ensures.heard) in
+    subst (λ (p : Past (Told g.row.C-Effect.Denot)). Waits (kinds_of g.C.Crdt.laws) g.J.Naming.sites g.J.Naming.parts p c.hand-seat.result.me.0.past run) c.pass.view_is (waits types g.J.Naming.sites g.J.Naming.parts c.self.inside.id c.max-seen.result was old me.0.past f.0 c.hand-seat.result.me.0.past (ap (λ (m : (View (Told g.row.C-Effect.Denot) × List (ℕ × ℕ))). m.0.past.lists) c.hand-seat.ensures.second.1) (ap (λ (m : (View (Told g.row.C-Effect.Denot) × List (ℕ × ℕ))). m.0.past.numbers) c.hand-seat.ensures.second.1) run (subst (λ (p : Past (Told g.row.C-Effect.Denot)). Sees (kinds_of g.C.Crdt.laws) g.J.Naming.sites g.J.Naming.parts p run) (sym c.pass.view_is) s))
 
 pub note-requires-clause-may : goal.note-requires-clause-may
 note-requires-clause-may g c =

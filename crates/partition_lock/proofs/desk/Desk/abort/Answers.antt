@@ -1,0 +1,20 @@
+use Rattle.std.proofs.Common.{◌≡◌, List, refl, ap, ◌∙◌, Some, None}
+use Rattle.std.specs.Prelude.{ℕ, ⊤}
+use Rattle.crdt_core.specs.KindsOf.{kinds_of}
+use Rattle.world_model.specs.declared.step.Step.TheVariants as step
+use Rattle.world_model.specs.rules.Event.{AskAbort, Event, Aborted}
+use Rattle.std.specs.Prelude.{true}
+use Rattle.partition_lock.proofs.Settling.{exact, fails_as, rests}
+use Rattle.partition_lock.proofs.desk.Desk.abort.Goals as goal
+
+pub returns-in-Ok-told-clause-ok : goal.returns-in-Ok-told-clause-ok
+returns-in-Ok-told-clause-ok g c run s a =
+    exact (kinds_of g.C.Crdt.laws) g.J.Naming.sites g.J.Naming.parts c.ask-pass.new.self c.args.pass c.ask-pass.result.0 c.args.by c.args.self.now (AskAbort c.args.tx) (λ below. ⊤) (λ (n : Unit {0}) (e : Event g.row.C-Effect.Denot). e ≡ Aborted c.args.tx true) c.ask-pass.result.1 c.ask-pass.ensures.ok c.in-Ok.told c.in-Ok.is run s a tt (Some c.args.by) refl
+    c.in-Ok-told.field-0 c.in-Ok-told.is (Aborted c.args.tx true) (λ e h. h) (step.Aborted c.place-at.result c.args.tx) (λ below. ap (λ p. step.Aborted p c.args.tx) c.place-at.ensures)
+
+pub returns-in-Err-told-clause-ok : goal.returns-in-Err-told-clause-ok
+returns-in-Err-told-clause-ok g c run s a =
+    fails_as (kinds_of g.C.Crdt.laws) g.J.Naming.sites g.J.Naming.parts c.ask-pass.new.self c.args.pass c.ask-pass.result.0 c.args.by c.args.self.now (AskAbort c.args.tx) (λ below. ⊤) (λ (n : Unit {0}) (e : Event g.row.C-Effect.Denot). e ≡ Aborted c.args.tx true) c.ask-pass.result.1 c.ask-pass.ensures.ok c.in-Ok.told c.in-Ok.is run s a tt (Some c.args.by) refl c.in-Err-told.line c.in-Err-told.is
+
+pub returns-in-Err-clause-err : goal.returns-in-Err-clause-err
+returns-in-Err-clause-err g c run s = rests (kinds_of g.C.Crdt.laws) g.J.Naming.sites g.J.Naming.parts c.ask-pass.new.self c.args.pass c.ask-pass.result.0 c.ask-pass.result.1 c.ask-pass.ensures.err c.in-Err.field-0 c.in-Err.is run s
