@@ -8,7 +8,7 @@ use Rattle.crdt_core.specs.declared.object.ObjectId.{ObjectId}
 use Rattle.crdt_core.specs.declared.operation.Op.{Op}
 use Rattle.crdt_core.specs.declared.record.Upd.{Upd}
 use Rattle.world_model.specs.lines.Lines.{Wish}
-use Rattle.world_model.specs.rules.Event.{Ask, AskTick, AskBegin, AskRead, AskUpdate, AskPrepare, AskDecide, AskFinish, Refusal, IsDown, ClockBehind, TxPending, StableBehind, ClockAtEnd, IsGone, HasGap, IsRepeat, IsBadOp, HasNoRoom, IsDamaged, Event, Ticked, Began, Updated, Read, Prepared, Decided, Finished, RestartCut, Refused, Cut, Entry, attempt}
+use Rattle.world_model.specs.rules.Event.{Ballot, Ask, AskTick, AskBegin, AskRead, AskUpdate, AskPrepare, AskDecide, AskFinish, Refusal, IsDown, ClockBehind, TxPending, StableBehind, ClockAtEnd, IsGone, HasGap, IsRepeat, IsBadOp, HasNoRoom, IsDamaged, Event, Ticked, Began, Updated, Read, Prepared, Decided, Finished, RestartCut, Refused, Cut, Entry, attempt}
 use Rattle.world_model.specs.rules.Lines.{refusal_shown, fault_shown, step_shown}
 use Rattle.world_model.specs.rules.Asking.{asked_by}
 use Rattle.client_pool.specs.declared.outcome.Outcome.{Outcome}
@@ -16,15 +16,15 @@ use Rattle.client_pool.specs.declared.outcome.Outcome.TheVariants.{Done, Again, 
 use Rattle.client_pool.specs.Outcomes.{outcome_of}
 use Rattle.client_pool.specs.Deeds.{Deed, Ticks, Begins, Reads, Updates, Prepares, Decides, Finishes, IsDone, is_aside, is_put_off, is_between, is_stop}
 
-abbrev is_done : Outcome → Bool
+abbrev pub is_done : Outcome → Bool
 is_done Done = true
 is_done other = false
 
-abbrev is_again : Outcome → Bool
+abbrev pub is_again : Outcome → Bool
 is_again Again = true
 is_again other = false
 
-abbrev is_stopped : Outcome → Bool
+abbrev pub is_stopped : Outcome → Bool
 is_stopped Stopped = true
 is_stopped other = false
 
@@ -96,38 +96,44 @@ module _ {E : Type 0} where
         go other k = absurd (true≢false (sym k))
 
     -- a call that is done does what was asked
-    tick_done : (e : Event E) (r : ℕ) → asked_by (attempt e) ≡ AskTick r → is_done (outcome_of (step_shown run p e)) ≡ true → IsDone (Ticks p) p e
+    pub tick_done : (e : Event E) (r : ℕ) → asked_by (attempt e) ≡ AskTick r → is_done (outcome_of (step_shown run p e)) ≡ true → IsDone (Ticks p) p e
     tick_done (Ticked r n) asked a h = refl
     tick_done (Refused ask why) asked a h = absurd (true≢false (sym h ∙ refused_undone run p ask why))
     tick_done (Cut what) asked a h = absurd (true≢false (sym h ∙ cut_undone p what))
     tick_done other asked a h = absurd cc
 
-    read_done : (e : Event E) (t : TxId) (s : List ℕ) (o : ObjectId) (own : List (Upd E)) → asked_by (attempt e) ≡ AskRead t s o own → is_done (outcome_of (step_shown run p e)) ≡ true → IsDone (Reads t o) p e
+    pub read_done : (e : Event E) (t : TxId) (s : List ℕ) (o : ObjectId) (own : List (Upd E)) → asked_by (attempt e) ≡ AskRead t s o own → is_done (outcome_of (step_shown run p e)) ≡ true → IsDone (Reads t o) p e
     read_done (Read u v o' own' read value) t s o own a h = (cc, cc)
     read_done (Refused ask why) t s o own a h = absurd (true≢false (sym h ∙ refused_undone run p ask why))
     read_done (Cut what) t s o own a h = absurd (true≢false (sym h ∙ cut_undone p what))
     read_done other t s o own a h = absurd cc
 
-    update_done : (e : Event E) (t : TxId) (s : List ℕ) (o : ObjectId) (own : List (Upd E)) (op : Op) → asked_by (attempt e) ≡ AskUpdate t s o own op → is_done (outcome_of (step_shown run p e)) ≡ true → IsDone (Updates t o op) p e
+    pub update_done : (e : Event E) (t : TxId) (s : List ℕ) (o : ObjectId) (own : List (Upd E)) (op : Op) → asked_by (attempt e) ≡ AskUpdate t s o own op → is_done (outcome_of (step_shown run p e)) ≡ true → IsDone (Updates t o op) p e
     update_done (Updated u v o' own' op' read x stamp) t s o own op a h = (cc, cc, cc)
     update_done (Refused ask why) t s o own op a h = absurd (true≢false (sym h ∙ refused_undone run p ask why))
     update_done (Cut what) t s o own op a h = absurd (true≢false (sym h ∙ cut_undone p what))
     update_done other t s o own op a h = absurd cc
 
-    prepare_done : (e : Event E) (t : TxId) (s : List ℕ) (l : ℕ) (w : List (Upd E)) → asked_by (attempt e) ≡ AskPrepare t s l w → is_done (outcome_of (step_shown run p e)) ≡ true → IsDone (Prepares p t) p e
+    pub prepare_done : (e : Event E) (t : TxId) (s : List ℕ) (l : Ballot) (w : List (Upd E)) → asked_by (attempt e) ≡ AskPrepare t s l w → is_done (outcome_of (step_shown run p e)) ≡ true → IsDone (Prepares p t) p e
     prepare_done (Prepared u v m x n) t s l w a h = (refl, cc)
     prepare_done (Refused ask why) t s l w a h = absurd (true≢false (sym h ∙ refused_undone run p ask why))
     prepare_done (Cut what) t s l w a h = absurd (true≢false (sym h ∙ cut_undone p what))
     prepare_done other t s l w a h = absurd cc
 
-    decide_done : (e : Event E) (t : TxId) (c : List ℕ) → asked_by (attempt e) ≡ AskDecide t c → is_done (outcome_of (step_shown run p e)) ≡ true → IsDone (Decides p t) p e
+    pub decide_done : (e : Event E) (t : TxId) (c : List ℕ) → asked_by (attempt e) ≡ AskDecide t c → is_done (outcome_of (step_shown run p e)) ≡ true → IsDone (Decides p t) p e
     decide_done (Decided u d) t c a h = (refl, cc)
     decide_done (Refused ask why) t c a h = absurd (true≢false (sym h ∙ refused_undone run p ask why))
     decide_done (Cut what) t c a h = absurd (true≢false (sym h ∙ cut_undone p what))
     decide_done other t c a h = absurd cc
 
-    finish_done : (e : Event E) (t : TxId) (c : List ℕ) → asked_by (attempt e) ≡ AskFinish t c → is_done (outcome_of (step_shown run p e)) ≡ true → IsDone (Finishes p t) p e
+    pub finish_done : (e : Event E) (t : TxId) (c : List ℕ) → asked_by (attempt e) ≡ AskFinish t c → is_done (outcome_of (step_shown run p e)) ≡ true → IsDone (Finishes p t) p e
     finish_done (Finished u d) t c a h = (refl, cc)
     finish_done (Refused ask why) t c a h = absurd (true≢false (sym h ∙ refused_undone run p ask why))
     finish_done (Cut what) t c a h = absurd (true≢false (sym h ∙ cut_undone p what))
     finish_done other t c a h = absurd cc
+
+    pub begin_done : (e : Event E) (who : List ℕ) (wish : Wish) → asked_by (attempt e) ≡ AskBegin who wish → is_done (outcome_of (step_shown run p e)) ≡ true → (t : TxId) × (v : List ℕ) × (e ≡ Began who wish t v)
+    begin_done (Began n w t v) who wish a h = (t, v, cc)
+    begin_done (Refused ask why) who wish a h = absurd (true≢false (sym h ∙ refused_undone run p ask why))
+    begin_done (Cut what) who wish a h = absurd (true≢false (sym h ∙ cut_undone p what))
+    begin_done other who wish a h = absurd cc

@@ -3,5 +3,13 @@ pub mod Changes
 pub mod Summary
 pub mod Text
 pub mod Outcomes
+pub mod Told
 pub mod Deeds
+pub mod Coming
+pub mod Sessions
+pub mod Commits
+pub mod Begins
+pub mod Works
+pub mod Loads
 pub mod Rows
+pub mod Crowds

@@ -1,7 +1,8 @@
 ghost use Rattle.std.specs.Prelude.{◌≡◌};
 ghost use Rattle.client_pool.specs.Outcomes.{outcome_of};
+ghost use Rattle.client_pool.specs.Told.{told_of, progress_of};
 
-use world_model::Step;
+use world_model::{Next, Step};
 
 /// What the answer to a call is to a client.
 #[derive(Clone, Copy, Debug)]
@@ -33,5 +34,57 @@ pub fn outcome_of(step: &Step) -> Outcome
         | Step::BadOp
         | Step::Damaged { .. } => Outcome::Stopped,
         _ => Outcome::Done,
+    }
+}
+
+/// What a call came to, to a client.
+#[derive(Debug, Drop)]
+pub enum Reply {
+    /// What was asked is done; its line.
+    Done(Step),
+    /// It is asked again.
+    Again,
+    /// The partition stopped.
+    Stopped,
+    /// Nothing was asked: memory ran out.
+    NoMemory,
+}
+
+/// What a call came to. Each of its errors is taken for want of memory.
+pub fn told<X: Drop>(answer: Result<Step, X>) -> Reply
+    ensures { result ≡ told_of answer }
+{
+    match answer {
+        Ok(step) => match outcome_of(&step) {
+            Outcome::Done => Reply::Done(step),
+            Outcome::Again => Reply::Again,
+            Outcome::Stopped => Reply::Stopped,
+        },
+        Err(_) => Reply::NoMemory,
+    }
+}
+
+/// What a step of a commit came to, to a client.
+#[derive(Clone, Copy, Debug)]
+pub enum Progress {
+    /// It is done, or asked again.
+    On,
+    /// The partition stopped.
+    Stopped,
+    /// Nothing was asked: memory ran out.
+    NoMemory,
+}
+
+/// What a step of a commit came to. Each of its errors is taken for want of memory.
+pub fn progress_of<X: Drop>(answer: Result<(Step, Next), X>) -> Progress
+    ensures { result ≡ progress_of answer }
+{
+    match answer {
+        Ok((step, _)) => match outcome_of(&step) {
+            Outcome::Done => Progress::On,
+            Outcome::Again => Progress::On,
+            Outcome::Stopped => Progress::Stopped,
+        },
+        Err(_) => Progress::NoMemory,
     }
 }
