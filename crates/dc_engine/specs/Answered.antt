@@ -7,6 +7,7 @@ use Rattle.world_model.specs.commands.Cluster.{has_cluster}
 use Rattle.world_model.specs.commands.Run.{Run, written_lines}
 use Rattle.world_model.specs.commands.ScriptAnswers.{Answers}
 use Rattle.cluster.specs.Built.{is_built}
+use Rattle.cluster.specs.Fused.{AreFused}
 use Rattle.cluster.specs.History.{ShowsHistory}
 use Rattle.dc_engine.specs.declared.framing.Framing.{Framing}
 use Rattle.dc_engine.specs.GivenBack.{GivenBack}
@@ -24,12 +25,17 @@ pub record Answered (f : Framing) (spelled : ℕ → Step → List ℕ) (lines :
   pub only : IsOnly f lines run
   pub written : bytes ≡ written_lines spelled run
 
--- and no cluster stands then
-pub record AnsweredBefore (f : Framing) (spelled : ℕ → Step → List ℕ) (lines : List (List ℕ)) (bytes : List ℕ) : Type 0 where
+-- and where disks are sound, each line that tells of one that failed stands behind a fuse of the script
+pub record AnsweredFused (sound : Type 0) (f : Framing) (spelled : ℕ → Step → List ℕ) (lines : List (List ℕ)) (bytes : List ℕ) : Type 0 where
   pub answered : Answered f spelled lines bytes
-  pub lacks : has_cluster answered.run ≡ false
+  pub fused : sound → AreFused answered.run
+
+-- and no cluster stands then
+pub record AnsweredBefore (sound : Type 0) (f : Framing) (spelled : ℕ → Step → List ℕ) (lines : List (List ℕ)) (bytes : List ℕ) : Type 0 where
+  pub fully : AnsweredFused sound f spelled lines bytes
+  pub lacks : has_cluster fully.answered.run ≡ false
 
 -- and the disks of the cluster that stands at the end are given back, with the logs of that history, where their maker tells them
-pub record AnsweredWhole {D : Type 0} (f : Framing) (spelled : ℕ → Step → List ℕ) (state : D → DiskState) (old new : Maker D) (lines : List (List ℕ)) (bytes : List ℕ) : Type 0 where
-  pub answered : Answered f spelled lines bytes
-  pub given_back : IsTrue old.tells → GivenBack state answered.run answered.history.events old new
+pub record AnsweredWhole {D : Type 0} (sound : Type 0) (f : Framing) (spelled : ℕ → Step → List ℕ) (state : D → DiskState) (old new : Maker D) (lines : List (List ℕ)) (bytes : List ℕ) : Type 0 where
+  pub fully : AnsweredFused sound f spelled lines bytes
+  pub given_back : IsTrue old.tells → GivenBack state fully.answered.run fully.answered.history.events old new

@@ -8,6 +8,7 @@ use Rattle.world_model.specs.commands.Cluster.{sites_of, parts_of}
 use Rattle.world_model.specs.commands.Run.{Run, written_lines}
 use Rattle.world_model.specs.commands.ScriptAnswers.{Answers}
 use Rattle.cluster.specs.Built.{is_built}
+use Rattle.cluster.specs.Fused.{AreFused, AreSoundIn}
 use Rattle.cluster.specs.Post.{WholeState}
 use Rattle.cluster.specs.Reached as cluster
 use Rattle.site_partitions.specs.Reaches.{Types}
@@ -30,12 +31,15 @@ module _ {D : Type 0} (state : D → DiskState) where
   abbrev pub IsLeft : Standing D → Run → Type 0
   IsLeft c run = cluster.Reached (types (fused_state state)) c run
 
-  -- a run of the cluster, which left it so, answers these lines, the first first, with these bytes
-  pub record Reached (f : Framing) (spelled : ℕ → Step → List ℕ) (c : Standing D) (lines : List (List ℕ)) (bytes : List ℕ) : Type 0 where
+  -- a run of the cluster, which left it so, answers these lines, the first first, with these bytes. Where disks are sound, each line
+  -- that tells of one that failed stands behind a fuse of the script
+  pub record Reached (sound : Type 0) (f : Framing) (spelled : ℕ → Step → List ℕ) (c : Standing D) (lines : List (List ℕ)) (bytes : List ℕ) : Type 0 where
     pub run : Run
     pub left : IsLeft c run
     pub answers : Answers is_built (reverse (map (asked_of f) lines)) run
     pub written : bytes ≡ written_lines spelled run
+    pub fused : sound → AreFused run
+    pub standing : sound → AreSoundIn (fused_state state) c
 
   abbrev pub HasOut : ℕ → Standing D → Type 0
   HasOut out c = HasOutOf (types (fused_state state)) out c

@@ -1,9 +1,10 @@
 -- How disks come from their maker and go back to it.
-use Rattle.std.specs.Prelude.{◌≡◌, ℕ, ◌+◌, nat_lt, List, [], ◌∷◌, ◌++◌, length, map, if◌then◌else◌, IsTrue, Option, None, Some}
+use Rattle.std.specs.Prelude.{◌≡◌, ℕ, ◌+◌, nat_lt, List, [], ◌∷◌, ◌++◌, length, map, if◌then◌else◌, IsTrue, false, Option, None, Some, ⊤}
 use Rattle.site_vector.specs.declared.ids.PartId.{PartId}
 use Rattle.disk_core.specs.Fuses.{inside}
+use Rattle.disk_core.specs.States.{DiskState}
 use Rattle.disk_core.specs.declared.fused.Fused.{Fused}
-use Rattle.disk_makers.specs.Makers.{Maker}
+use Rattle.disk_makers.specs.Makers.{Maker, IsSound}
 use Rattle.gate_log.specs.Logs.{disk_of}
 use Rattle.partition_core.specs.Durable.{Durable}
 use Rattle.partition_core.specs.declared.restart.RestartError.TheVariants as restart
@@ -52,7 +53,12 @@ module _ {D : Type 0} where
     pub sized : SizedIn c
     pub back : GivesBack (number_or_none (parts_in c)) first_place (map disk_from (partitions_in c)) old new
 
--- the line tells of the disk of the partition that didn't come up
-abbrev pub FailsAt : {D : Type 0} → MakeError D → List Step → Type 0
-FailsAt make.NoMemory steps = ⊥
-FailsAt (make.Partition at disk why) steps = (why ≡ restart.Disk) × (steps ≡ step.Disk at ∷ [])
+-- the line tells of the disk of the partition that didn't come up, which didn't want memory
+abbrev pub FailsAt : {D : Type 0} → (D → DiskState) → MakeError D → List Step → Type 0
+FailsAt state make.NoMemory steps = ⊥
+FailsAt state (make.Partition at disk why) steps = (why ≡ restart.Disk) × ((state disk).starved ≡ false) × (steps ≡ step.Disk at ∷ [])
+
+-- each of these disks fails only where it finds no memory to grow
+abbrev pub AreSure : {D : Type 0} → (D → DiskState) → List D → Type 0
+AreSure state [] = ⊤
+AreSure state (d ∷ ds) = IsSound (state d) × AreSure state ds

@@ -3,7 +3,7 @@ use Rattle.std.specs.Prelude.{◌≡◌, ℕ, Bool, true, false, List, Option}
 use Rattle.dc_engine.specs.Causes.{Rose}
 use Rattle.disk_core.specs.States.{DiskState}
 use Rattle.disk_makers.specs.Makers.{Maker}
-use Rattle.dc_engine.specs.Answered.{Answered, AnsweredWhole, AnsweredBefore}
+use Rattle.dc_engine.specs.Answered.{AnsweredFused, AnsweredWhole, AnsweredBefore}
 use Rattle.dc_engine.specs.Played.{Played, PlayedEnded, PlayedTooLong, PlayedFront, PlayedBefore}
 use Rattle.dc_engine.specs.Reading.{has_bad}
 use Rattle.world_model.specs.declared.step.Step.{Step}
@@ -49,6 +49,6 @@ module _ (f : Framing) (whole replies earlier : List (List ℕ) → List ℕ →
   Outcome status.TooLong source sink = PlayedTooLong f most_bytes replies source.before source.after sink.before sink.after
   Outcome status.NoDisk source sink = PlayedBefore f block_bytes most_bytes earlier source.before source.after sink.before sink.after × no_disk
 
--- with replies that are written so, and the maker of the disks before and after
-abbrev pub PlayOutcome : {D : Type 0} → Framing → (ℕ → Step → List ℕ) → (D → DiskState) → Maker D → Maker D → Status → Change → Change → Type 0
-PlayOutcome f spelled state old new = Outcome f (AnsweredWhole f spelled state old new) (Answered f spelled) (AnsweredBefore f spelled) (Rose old.faults new.faults)
+-- with replies that are written so, over a maker of disks that are sound where this holds, before and after
+abbrev pub PlayOutcome : {D : Type 0} → Type 0 → Framing → (ℕ → Step → List ℕ) → (D → DiskState) → Maker D → Maker D → Status → Change → Change → Type 0
+PlayOutcome sound f spelled state old new = Outcome f (AnsweredWhole sound f spelled state old new) (AnsweredFused sound f spelled) (AnsweredBefore sound f spelled) (Rose old.faults new.faults)

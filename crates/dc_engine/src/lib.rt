@@ -4,6 +4,7 @@
 mod fault;
 mod format;
 mod framing;
+mod ground;
 mod laws;
 mod player;
 mod responder;

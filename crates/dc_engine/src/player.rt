@@ -8,7 +8,7 @@ ghost use Rattle.site_partitions.specs.Reaches.{types_of};
 ghost use Rattle.disk_makers.specs.Makers.{MakesAll};
 ghost use Rattle.dc_engine.specs.Held.{HasOut, HasOutOf};
 ghost use Rattle.dc_engine.specs.Makers.{FailsAt, IsUnchanged};
-ghost use Rattle.dc_engine.specs.Player.{AnswersAsked};
+ghost use Rattle.dc_engine.specs.Player.{AnswersAsked, StaysSoundAsked, StaysSoundBy};
 ghost use Rattle.dc_engine.specs.Reading.{asked_of, makes_cluster};
 
 pub(crate) mod makers;
@@ -16,6 +16,7 @@ pub(crate) mod objects;
 pub(crate) mod reading;
 
 use crate::format::Writer;
+use crate::ground::Ground;
 use crate::player::makers::{Memory, give_back_cluster, make_all};
 use crate::player::objects::Objects;
 use crate::player::reading::reading;
@@ -36,7 +37,7 @@ use world_model::{Command, Step};
 /// Answers the lines of a script: the cluster that its commands work on, whether a line wasn't in the grammar, and how
 /// many lines were answered.
 #[derive(Drop)]
-pub(crate) struct Player<M: Disks, W: Writer, F: Cutter> {
+pub(crate) struct Player<M: Disks, W: Writer, F: Cutter, G: Ground> {
     alloc: Global,
     cluster: Cluster<Objects, M::Disk>,
     met_bad: bool,
@@ -45,9 +46,10 @@ pub(crate) struct Player<M: Disks, W: Writer, F: Cutter> {
     parsed: Parsed,
     writer: PhantomData<W>,
     cutter: PhantomData<F>,
+    ground: PhantomData<G>,
 }
 
-impl<M: Disks, W: Writer, F: Cutter> Model for Player<M, W, F> {
+impl<M: Disks, W: Writer, F: Cutter, G: Ground> Model for Player<M, W, F, G> {
     ghost use Rattle.dc_engine.specs.Player.{PlayerState};
 
     ghost Value = { PlayerState M.Disk };
@@ -55,14 +57,14 @@ impl<M: Disks, W: Writer, F: Cutter> Model for Player<M, W, F> {
     ghost view = { λ p. record { cluster = p.cluster; met_bad = p.met_bad; count = p.count } };
 }
 
-impl<M: Disks, W: Writer, F: Cutter> Player<M, W, F> {
+impl<M: Disks, W: Writer, F: Cutter, G: Ground> Player<M, W, F, G> {
     ghost use Rattle.dc_engine.specs.Makers.{ReturnsAll};
     ghost use Rattle.dc_engine.specs.Player.{ReachedBy};
     ghost use Rattle.dc_engine.specs.Replies.{AnswersLine};
 
     /// A player before any line. Takes no memory.
-    pub(crate) fn new(alloc: Global) -> Player<M, W, F>
-        ensures reached { ReachedBy M.Disk.state F.framing W.spelled result [] [] }
+    pub(crate) fn new(alloc: Global) -> Player<M, W, F, G>
+        ensures reached { ReachedBy M.Disk.state G.sound F.framing W.spelled result [] [] }
         ensures holds { HasOut M.Disk.state 0 result.cluster }
     {
         Player {
@@ -73,6 +75,7 @@ impl<M: Disks, W: Writer, F: Cutter> Player<M, W, F> {
             parsed: Parsed::Nothing,
             writer: PhantomData,
             cutter: PhantomData,
+            ground: PhantomData,
         }
     }
 
@@ -92,8 +95,10 @@ impl<M: Disks, W: Writer, F: Cutter> Player<M, W, F> {
         out: &mut Vec<u8>,
     ) -> Result<(), Unanswered>
         requires held { HasOut M.Disk.state (M.state disks.old).out self.old.cluster }
+        requires ground { G.sound → M.sound disks.old }
         ensures held { HasOut M.Disk.state (M.state disks.new).out self.new.cluster }
-        ensures ok { OnOk result (AnswersLine (ReachedBy M.Disk.state F.framing W.spelled) self.old self.new line.now out.old.items out.new.items) }
+        ensures sound { M.sound disks.old → M.sound disks.new }
+        ensures ok { OnOk result (AnswersLine (ReachedBy M.Disk.state G.sound F.framing W.spelled) self.old self.new line.now out.old.items out.new.items) }
         ensures err { OnErr result (take (length out.old.items) out.new.items ≡ out.old.items) }
         ensures making { result ≡ Err Unanswered.NoDisk → makes_cluster F.framing line.now ≡ true }
         ensures lacks { result ≡ Err Unanswered.NoDisk → self.old.cluster ≡ None }
@@ -126,16 +131,16 @@ impl<M: Disks, W: Writer, F: Cutter> Player<M, W, F> {
     }
 }
 
-impl<M: Disks, W: Writer, F: Cutter> Responder for Player<M, W, F> {
+impl<M: Disks, W: Writer, F: Cutter, G: Ground> Responder for Player<M, W, F, G> {
     ghost use Rattle.dc_engine.specs.Player.{ReachedBy};
 
     type Maker = M;
 
     type Cutter = F;
 
-    ghost reached = { ReachedBy M.Disk.state F.framing W.spelled };
+    ghost reached = { ReachedBy M.Disk.state G.sound F.framing W.spelled };
 
-    ghost holds = { λ p out. HasOut M.Disk.state out p.cluster };
+    ghost holds = { λ p maker. HasOut M.Disk.state (M.state maker).out p.cluster × (G.sound → M.sound maker) };
 
     ghost lacks = { λ p. p.cluster ≡ None };
 
@@ -167,6 +172,8 @@ fn answer_to<M: Disks, F: Cutter>(
     requires held { HasOut M.Disk.state (M.state disks.old).out cluster.old }
     ensures held { HasOut M.Disk.state (M.state disks.new).out cluster.new }
     ensures ok { IfOk result (λ steps. AnswersAsked M.Disk.state cluster.old met_bad.old (asked_of F.framing line.now) steps.items cluster.new met_bad.new) }
+    ensures sound { M.sound disks.old → M.sound disks.new }
+    ensures stays { IfOk result (λ steps. M.sound disks.old → StaysSoundAsked M.Disk.state cluster.old (asked_of F.framing line.now) steps.items cluster.new) }
     ensures making { result ≡ Err Unanswered.NoDisk → makes_cluster F.framing line.now ≡ true }
     ensures lacks { result ≡ Err Unanswered.NoDisk → cluster.old ≡ None }
     ensures later { (M.state disks.old).faults ≤ (M.state disks.new).faults }
@@ -198,6 +205,8 @@ fn obey<C: Crdt, M: Disks>(
     requires held { HasOutOf (types_of C.laws C.spells (fused_state M.Disk.state)) (M.state disks.old).out cluster.old }
     ensures held { HasOutOf (types_of C.laws C.spells (fused_state M.Disk.state)) (M.state disks.new).out cluster.new }
     ensures ok { IfOk result (λ steps. Applies (types_of C.laws C.spells (fused_state M.Disk.state)) cluster.old command.now steps.items cluster.new) }
+    ensures sound { M.sound disks.old → M.sound disks.new }
+    ensures stays { IfOk result (λ steps. M.sound disks.old → StaysSoundBy (types_of C.laws C.spells (fused_state M.Disk.state)) (fused_state M.Disk.state) cluster.old command.now steps.items cluster.new) }
     ensures making { result ≡ Err Unanswered.NoDisk → is_making command.now ≡ true }
     ensures lacks { result ≡ Err Unanswered.NoDisk → cluster.old ≡ None }
     ensures later { (M.state disks.old).faults ≤ (M.state disks.new).faults }
@@ -253,6 +262,8 @@ fn make_cluster<C: Crdt, M: Disks>(
     requires most_parts { parts ≤ 16 }
     ensures held { HasOutOf (types_of C.laws C.spells (fused_state M.Disk.state)) (M.state disks.new).out cluster.new }
     ensures ok { IfOk result (λ steps. Applies (types_of C.laws C.spells (fused_state M.Disk.state)) None (Command.Cluster sites parts) steps.items cluster.new) }
+    ensures sound { M.sound disks.old → M.sound disks.new }
+    ensures stays { IfOk result (λ steps. M.sound disks.old → StaysSoundBy (types_of C.laws C.spells (fused_state M.Disk.state)) (fused_state M.Disk.state) None (Command.Cluster sites parts) steps.items cluster.new) }
     ensures later { (M.state disks.old).faults ≤ (M.state disks.new).faults }
     ensures cause { result ≡ Err Unanswered.NoDisk → Rose (M.state disks.old).faults (M.state disks.new).faults }
     ensures sure { MakesAll M.makes_all (result ≡ Err Unanswered.NoDisk) disks.old disks.new }
@@ -274,7 +285,7 @@ fn unmade<D: Disk + Drop>(
     alloc: Global,
     error: MakeError<Fused<D>>,
 ) -> Result<Vec<Step>, AllocError>
-    ensures { IfOk result (λ steps. FailsAt error steps.items) }
+    ensures { IfOk result (λ steps. FailsAt (fused_state D.state) error steps.items) }
 {
     match error {
         MakeError::Partition {

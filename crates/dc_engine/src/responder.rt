@@ -23,8 +23,8 @@ pub(crate) trait Responder {
     /// these bytes.
     ghost reached: { Self → List (List ℕ) → List ℕ → Type 0 };
 
-    /// `holds m out`: where so many disks are out, m may have those that it has.
-    ghost holds: { Self → ℕ → Type 0 };
+    /// `holds m maker`: m may have those disks that it has, and what it says of them the maker keeps.
+    ghost holds: { Self → Self.Maker → Type 0 };
 
     /// `lacks m`: m has no cluster.
     ghost lacks: { Self → Type 0 };
@@ -42,8 +42,8 @@ pub(crate) trait Responder {
         line: &[u8],
         out: &mut Vec<u8>,
     ) -> Result<(), Unanswered>
-        requires held { holds self.old (Self.Maker.state disks.old).out }
-        ensures held { holds self.new (Self.Maker.state disks.new).out }
+        requires held { holds self.old disks.old }
+        ensures held { holds self.new disks.new }
         ensures ok { OnOk result (AnswersLine reached self.old self.new line.now out.old.items out.new.items) }
         ensures err { OnErr result (out.new.items ≡ out.old.items) }
         ensures making { result ≡ Err Unanswered.NoDisk → makes_cluster Self.Cutter.framing line.now ≡ true }

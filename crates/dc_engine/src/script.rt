@@ -35,8 +35,8 @@ pub(crate) fn play_script<S: Source, K: Sink, R: Responder>(
     disks: &mut R::Maker,
 ) -> Status
     requires fresh { R.reached responder.old [] [] }
-    requires held { R.holds responder.old (R.Maker.state disks.old).out }
-    ensures held { R.holds responder.new (R.Maker.state disks.new).out }
+    requires held { R.holds responder.old disks.old }
+    ensures held { R.holds responder.new disks.new }
     ensures same { ends_whole result ≡ true → IsUnchanged (R.Maker.state disks.old) (R.Maker.state disks.new) }
     ensures sure { MakesAll R.Maker.makes_all (result ≡ Status.NoDisk) disks.old disks.new }
     ensures played { Outcome R.Cutter.framing (R.reached responder.new) (Replies R.reached) (RepliesBefore R.reached R.lacks) (Rose (R.Maker.state disks.old).faults (R.Maker.state disks.new).faults) result (change S.left S.faults source.old source.new) (change K.held K.faults sink.old sink.new) }

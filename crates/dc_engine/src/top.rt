@@ -1,20 +1,16 @@
-ghost use Rattle.std.specs.Prelude.{◌≡◌, ◌≢◌, true, [], map, IfSome, IfNone, OnOk, Some};
+ghost use Rattle.std.specs.Prelude.{◌≡◌, ◌≢◌, map, IfSome, IfNone, None, OnOk, Some};
 ghost use Rattle.std.specs.Option.{option_copied};
-ghost use Rattle.disk_core.specs.States.{Rose};
 ghost use Rattle.dc_engine.specs.Format.{spelled_in};
-ghost use Rattle.dc_engine.specs.Makers.{IsUnchanged};
-ghost use Rattle.dc_engine.specs.Outcome.{Outcome, PlayOutcome, change};
-ghost use Rattle.dc_engine.specs.Replies.{Replies, RepliesBefore};
-ghost use Rattle.dc_engine.specs.Status.{ends_whole};
-ghost use Rattle.dc_engine.specs.Told.{IsSure, IsTold};
+ghost use Rattle.dc_engine.specs.Outcome.{PlayOutcome, change};
+ghost use Rattle.dc_engine.specs.Told.{IsSoundIn, IsSure, IsTold};
 ghost use Rattle.dc_engine.specs.Words.{asked};
 ghost use Rattle.dc_engine.specs.declared.framing.Framing.TheVariants as framing;
 
 use crate::format::{Format, Framed, JsonWriter, LineWriter, Writer};
 use crate::framing::Framing;
+use crate::ground::Ground;
 use crate::player::Player;
 use crate::player::makers::Memory;
-use crate::responder::Responder;
 use crate::script::cutter::{ByFrames, ByLines, Cutter};
 use crate::script::play_script;
 use crate::status::Status;
@@ -23,6 +19,7 @@ use crate::streams::source::Source;
 use crate::words::{Request, request_of};
 use disk_makers::Disks;
 use std::alloc::{AllocError, Global};
+use std::marker::Brand;
 
 /// Plays a script from the source to the sink, whose lines and those of the replies are told apart by the framing. The
 /// bytes written are the lines of one run that answers the script's lines, each spelled in the format, and what a
@@ -39,7 +36,7 @@ pub fn play<S: Source, K: Sink, M: Disks>(
     sink: &mut K,
     disks: &mut M,
 ) -> Status
-    ensures played { PlayOutcome framing (spelled_in framing format) M.Disk.state (M.state disks.old) (M.state disks.new) result (change S.left S.faults source.old source.new) (change K.held K.faults sink.old sink.new) }
+    ensures played { PlayOutcome (IsSoundIn M.sound None disks.old) framing (spelled_in framing format) M.Disk.state (M.state disks.old) (M.state disks.new) result (change S.left S.faults source.old source.new) (change K.held K.faults sink.old sink.new) }
     ensures sure { M.makes_all disks.old → result ≢ Status.NoDisk }
 {
     let request = Request {
@@ -60,7 +57,7 @@ fn play_then<S: Source, K: Sink, M: Disks>(
     disks: &mut M,
     memory: Memory,
 ) -> Status
-    ensures played { PlayOutcome request.entry.framing (spelled_in request.entry.framing request.entry.format) M.Disk.state (M.state disks.old) (M.state disks.new) result (change S.left S.faults source.old source.new) (change K.held K.faults sink.old sink.new) }
+    ensures played { PlayOutcome (IsSoundIn M.sound (option_copied request.entry.folder) disks.old) request.entry.framing (spelled_in request.entry.framing request.entry.format) M.Disk.state (M.state disks.old) (M.state disks.new) result (change S.left S.faults source.old source.new) (change K.held K.faults sink.old sink.new) }
     ensures told { IsTold M.keeps_in M.state (option_copied request.entry.folder) result disks.old }
     ensures sure { IsSure M.makes_all (option_copied request.entry.folder) result disks.old }
 {
@@ -79,7 +76,7 @@ fn play_lines<S: Source, K: Sink, M: Disks>(
     disks: &mut M,
     memory: Memory,
 ) -> Status
-    ensures played { PlayOutcome framing.Lines (spelled_in framing.Lines request.entry.format) M.Disk.state (M.state disks.old) (M.state disks.new) result (change S.left S.faults source.old source.new) (change K.held K.faults sink.old sink.new) }
+    ensures played { PlayOutcome (IsSoundIn M.sound (option_copied request.entry.folder) disks.old) framing.Lines (spelled_in framing.Lines request.entry.format) M.Disk.state (M.state disks.old) (M.state disks.new) result (change S.left S.faults source.old source.new) (change K.held K.faults sink.old sink.new) }
     ensures told { IsTold M.keeps_in M.state (option_copied request.entry.folder) result disks.old }
     ensures sure { IsSure M.makes_all (option_copied request.entry.folder) result disks.old }
 {
@@ -103,7 +100,7 @@ fn play_frames<S: Source, K: Sink, M: Disks>(
     disks: &mut M,
     memory: Memory,
 ) -> Status
-    ensures played { PlayOutcome framing.Frames (spelled_in framing.Frames request.entry.format) M.Disk.state (M.state disks.old) (M.state disks.new) result (change S.left S.faults source.old source.new) (change K.held K.faults sink.old sink.new) }
+    ensures played { PlayOutcome (IsSoundIn M.sound (option_copied request.entry.folder) disks.old) framing.Frames (spelled_in framing.Frames request.entry.format) M.Disk.state (M.state disks.old) (M.state disks.new) result (change S.left S.faults source.old source.new) (change K.held K.faults sink.old sink.new) }
     ensures told { IsTold M.keeps_in M.state (option_copied request.entry.folder) result disks.old }
     ensures sure { IsSure M.makes_all (option_copied request.entry.folder) result disks.old }
 {
@@ -118,7 +115,7 @@ fn play_frames<S: Source, K: Sink, M: Disks>(
     }
 }
 
-/// Plays a script that is cut so, with replies as this writer writes them.
+/// Plays a script that is cut so, with replies as this writer writes them, over disks in this folder, where there is one.
 fn play_by<S: Source, K: Sink, M: Disks, W: Writer, F: Cutter>(
     alloc: Global,
     folder: Option<&str>,
@@ -127,37 +124,32 @@ fn play_by<S: Source, K: Sink, M: Disks, W: Writer, F: Cutter>(
     disks: &mut M,
     memory: Memory,
 ) -> Status
-    ensures played { PlayOutcome F.framing W.spelled M.Disk.state (M.state disks.old) (M.state disks.new) result (change S.left S.faults source.old source.new) (change K.held K.faults sink.old sink.new) }
+    ensures played { PlayOutcome (IsSoundIn M.sound (option_copied folder.entry) disks.old) F.framing W.spelled M.Disk.state (M.state disks.old) (M.state disks.new) result (change S.left S.faults source.old source.new) (change K.held K.faults sink.old sink.new) }
     ensures told { IsTold M.keeps_in M.state (option_copied folder.entry) result disks.old }
     ensures sure { IsSure M.makes_all (option_copied folder.entry) result disks.old }
-{
-    let mut player: Player<M, W, F> = Player::new(alloc);
-    let status = play_over(alloc, folder, source, sink, &mut player, disks);
-    player.give_back(disks, memory);
-    status
-}
-
-/// Plays a script as `play_script` does, over disks in this folder, where there is one.
-fn play_over<S: Source, K: Sink, R: Responder>(
-    alloc: Global,
-    folder: Option<&str>,
-    source: &mut S,
-    sink: &mut K,
-    responder: &mut R,
-    disks: &mut R::Maker,
-) -> Status
-    requires fresh { R.reached responder.old [] [] }
-    requires held { R.holds responder.old (R.Maker.state disks.old).out }
-    ensures same { ends_whole result ≡ true → IsUnchanged (R.Maker.state disks.old) (R.Maker.state disks.new) }
-    ensures held { R.holds responder.new (R.Maker.state disks.new).out }
-    ensures told { IsTold R.Maker.keeps_in R.Maker.state (option_copied folder.entry) result disks.old }
-    ensures sure { IsSure R.Maker.makes_all (option_copied folder.entry) result disks.old }
-    ensures played { Outcome R.Cutter.framing (R.reached responder.new) (Replies R.reached) (RepliesBefore R.reached R.lacks) (Rose (R.Maker.state disks.old).faults (R.Maker.state disks.new).faults) result (change S.left S.faults source.old source.new) (change K.held K.faults sink.old sink.new) }
 {
     if keep_in(alloc, folder, disks).is_err() {
         return Status::NoMemory;
     }
-    play_script(alloc, source, sink, responder, disks)
+    play_over::<S, K, M, W, F, Brand>(alloc, source, sink, disks, memory)
+}
+
+/// Plays a script by a new player, whose disks go back to their maker then.
+fn play_over<S: Source, K: Sink, M: Disks, W: Writer, F: Cutter, G: Ground>(
+    alloc: Global,
+    source: &mut S,
+    sink: &mut K,
+    disks: &mut M,
+    memory: Memory,
+) -> Status
+    requires ground { G.sound → M.sound disks.old }
+    ensures played { PlayOutcome G.sound F.framing W.spelled M.Disk.state (M.state disks.old) (M.state disks.new) result (change S.left S.faults source.old source.new) (change K.held K.faults sink.old sink.new) }
+    ensures sure { M.makes_all disks.old → result ≢ Status.NoDisk }
+{
+    let mut player: Player<M, W, F, G> = Player::new(alloc);
+    let status = play_script(alloc, source, sink, &mut player, disks);
+    player.give_back(disks, memory);
+    status
 }
 
 /// Has the maker keep its disks in this folder, where there is one.
@@ -184,7 +176,7 @@ pub fn run<S: Source, K: Sink, M: Disks>(
     sink: &mut K,
     disks: &mut M,
 ) -> Status
-    ensures played { IfSome (asked (map (λ word. word.now) words.now)) (λ asked. PlayOutcome asked.framing (spelled_in asked.framing asked.format) M.Disk.state (M.state disks.old) (M.state disks.new) result (change S.left S.faults source.old source.new) (change K.held K.faults sink.old sink.new)) }
+    ensures played { IfSome (asked (map (λ word. word.now) words.now)) (λ asked. PlayOutcome (IsSoundIn M.sound asked.folder disks.old) asked.framing (spelled_in asked.framing asked.format) M.Disk.state (M.state disks.old) (M.state disks.new) result (change S.left S.faults source.old source.new) (change K.held K.faults sink.old sink.new)) }
     ensures told { IfSome (asked (map (λ word. word.now) words.now)) (λ asked. IsTold M.keeps_in M.state asked.folder result disks.old) }
     ensures sure { IfSome (asked (map (λ word. word.now) words.now)) (λ asked. IsSure M.makes_all asked.folder result disks.old) }
     ensures usage { IfNone (asked (map (λ word. word.now) words.now)) ((result ≡ Status.Usage) × (source.new ≡ source.old) × (sink.new ≡ sink.old) × (disks.new ≡ disks.old)) }

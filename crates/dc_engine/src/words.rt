@@ -2,7 +2,7 @@ ghost use Rattle.std.specs.Prelude.{◌≡◌, drop, map, IfOk, IfSome, IfNone, 
 ghost use Rattle.std.specs.Option.{option_copied};
 ghost use Rattle.dc_engine.specs.Format.{spelled_in};
 ghost use Rattle.dc_engine.specs.Outcome.{PlayOutcome, change};
-ghost use Rattle.dc_engine.specs.Told.{IsSure, IsTold};
+ghost use Rattle.dc_engine.specs.Told.{IsSoundIn, IsSure, IsTold};
 ghost use Rattle.dc_engine.specs.Words.{asked, asked_in, asking_in, as_json, in_frames, kept_in, settled, with_option, with_options, with_word, named, joined};
 
 use crate::format::Format;
@@ -191,7 +191,7 @@ pub fn run_words<S: Source, K: Sink, M: Disks>(
     sink: &mut K,
     disks: &mut M,
 ) -> Result<Status, AllocError>
-    ensures played { IfSome (asked (map string_bytes (drop 1 words.now))) (λ asked. IfOk result (λ status. PlayOutcome asked.framing (spelled_in asked.framing asked.format) M.Disk.state (M.state disks.old) (M.state disks.new) status (change S.left S.faults source.old source.new) (change K.held K.faults sink.old sink.new))) }
+    ensures played { IfSome (asked (map string_bytes (drop 1 words.now))) (λ asked. IfOk result (λ status. PlayOutcome (IsSoundIn M.sound asked.folder disks.old) asked.framing (spelled_in asked.framing asked.format) M.Disk.state (M.state disks.old) (M.state disks.new) status (change S.left S.faults source.old source.new) (change K.held K.faults sink.old sink.new))) }
     ensures told { IfSome (asked (map string_bytes (drop 1 words.now))) (λ asked. IfOk result (λ status. IsTold M.keeps_in M.state asked.folder status disks.old)) }
     ensures sure { IfSome (asked (map string_bytes (drop 1 words.now))) (λ asked. IfOk result (λ status. IsSure M.makes_all asked.folder status disks.old)) }
     ensures usage { IfNone (asked (map string_bytes (drop 1 words.now))) (IfOk result (λ status. (status ≡ Status.Usage) × (source.new ≡ source.old) × (sink.new ≡ sink.old) × (disks.new ≡ disks.old))) }

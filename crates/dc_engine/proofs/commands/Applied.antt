@@ -17,6 +17,7 @@ use Rattle.world_model.specs.commands.Run.{Run, written_lines}
 use Rattle.world_model.specs.commands.Answers.{Asked, nothing, unreadable, asks, answered}
 use Rattle.world_model.specs.commands.ScriptAnswers.{GoesOn, Answers, IsMade, AnswersBy}
 use Rattle.cluster.specs.Built.{is_built, is_making}
+use Rattle.cluster.specs.Fused.{AreFused, AreSoundIn}
 use Rattle.cluster.specs.Post.{WholeState}
 use Rattle.cluster.specs.Reached.{Applies, Reached, parts_in}
 use Rattle.site_partitions.specs.Reaches.{Types}
@@ -26,7 +27,7 @@ use Rattle.cluster.proofs.Mere.{at_first}
 use Rattle.dc_engine.specs.declared.framing.Framing.{Framing}
 use Rattle.dc_engine.specs.Held.{Standing, IsLeft, HasOutOf}
 use Rattle.dc_engine.specs.ObjectKinds.{types}
-use Rattle.dc_engine.specs.Player.{PlayerState, AnswersAsked, ReachedBy}
+use Rattle.dc_engine.specs.Player.{PlayerState, AnswersAsked, StaysSoundAsked, ReachedBy}
 use Rattle.dc_engine.specs.Reading.{asked_of, is_unreadable, has_bad}
 use Rattle.dc_engine.specs.Replies.{AnswersLine}
 use Rattle.dc_engine.proofs.commands.Readings.{asked_of-take, has_bad-more}
@@ -39,33 +40,46 @@ lines_more spelled number asked (s ∷ steps) run = lines_more spelled number as
 script_more : (f : Framing) (lines : List (List ℕ)) (whole : List ℕ) → reverse (map (asked_of f) (lines ++ whole ∷ [])) ≡ asked_of f whole ∷ reverse (map (asked_of f) lines)
 script_more f lines whole = ap reverse (map-append (asked_of f) lines (whole ∷ [])) ∙ reverse-append (map (asked_of f) lines) (asked_of f whole ∷ [])
 
-module _ {D : Type 0} (state : D → DiskState) (f : Framing) (spelled : ℕ → Step → List ℕ) where
+-- no cluster stands before any line, so no disk
+none_standing : {D : Type 0} (state : D → DiskState) (c : Standing D) → IsLeft state c [] → AreSoundIn (fused_state state) c
+none_standing state None r = tt
+none_standing state (Some w) r = absurd (true≢false (sym r.live.has))
+
+module _ {D : Type 0} (state : D → DiskState) (sound : Type 0) (f : Framing) (spelled : ℕ → Step → List ℕ) where
   -- the run with the answer to one more line
   record GoesWith (run : Run) (number : ℕ) (asked : Asked) (steps : List Step) (new : Standing D) : Type 0 where
     more : Run
     goes : GoesOn is_built number run asked more
     left : IsLeft state new more
     written : written_lines spelled more ≡ written_lines spelled run ++ flat_map (spelled number) steps
+    fused : sound → AreFused more
+    standing : sound → AreSoundIn (fused_state state) new
 
-  goes_with : (old new : Standing D) (bad new_bad : Bool) (run : Run) (number : ℕ) (asked : Asked) (steps : List Step) → IsLeft state old run → AnswersAsked state old bad asked steps new new_bad → GoesWith run number asked steps new
-  goes_with old new bad new_bad run number nothing steps r h = record {
+  goes_with : (old new : Standing D) (bad new_bad : Bool) (run : Run) (number : ℕ) (asked : Asked) (steps : List Step) → IsLeft state old run → (sound → AreFused run) → (sound → AreSoundIn (fused_state state) old) → (sound → StaysSoundAsked state old asked steps new) → AnswersAsked state old bad asked steps new new_bad → GoesWith run number asked steps new
+  goes_with old new bad new_bad run number nothing steps r fused standing stays h = record {
     more = run;
     goes = refl;
     left = subst (λ c. IsLeft state c run) (sym h.1) r;
     written = sym (ap (λ l. written_lines spelled run ++ flat_map (spelled number) l) h.0 ∙ append-nil (written_lines spelled run));
+    fused = fused;
+    standing = λ x. subst (λ (c : Standing D). AreSoundIn (fused_state state) c) (sym h.1) (standing x);
   }
-  goes_with old new bad new_bad run number unreadable steps r h = record {
+  goes_with old new bad new_bad run number unreadable steps r fused standing stays h = record {
     more = answered number None (step.Bad ∷ []) run;
     goes = refl;
     left = subst (λ c. IsLeft state c (answered number None (step.Bad ∷ []) run)) (sym h.1) (bad_still (types (fused_state state)) old number run r);
     written = lines_more spelled number None (step.Bad ∷ []) run ∙ ap (λ l. written_lines spelled run ++ flat_map (spelled number) l) (sym h.0);
+    fused = λ x. (tt, fused x);
+    standing = λ x. subst (λ (c : Standing D). AreSoundIn (fused_state state) c) (sym h.1) (standing x);
   }
-  goes_with old new bad new_bad run number (asks c) steps r h =
+  goes_with old new bad new_bad run number (asks c) steps r fused standing stays h =
       let applied = h.0 number run r in record {
         more = answered number (Some c) steps run;
         goes = (steps, applied.0, refl);
         left = applied.1;
         written = lines_more spelled number (Some c) steps run;
+        fused = λ x. (stays x).fused (standing x) number run r (fused x);
+        standing = λ x. (stays x).standing (standing x);
       }
 
   -- the mark of a line that isn't in the grammar
@@ -74,44 +88,48 @@ module _ {D : Type 0} (state : D → DiskState) (f : Framing) (spelled : ℕ →
   marked old new bad new_bad unreadable steps b h e = sym h.2
   marked old new bad new_bad (asks c) steps b h e = e ∙ sym h.1
 
-  reached_more : (old new : PlayerState D) (whole : List ℕ) (steps : List Step) (lines : List (List ℕ)) (bytes : List ℕ) → AnswersAsked state old.cluster old.met_bad (asked_of f whole) steps new.cluster new.met_bad → new.count ≡ old.count + 1
-      → ReachedBy state f spelled old lines bytes → ReachedBy state f spelled new (lines ++ whole ∷ []) (bytes ++ flat_map (spelled new.count) steps)
-  reached_more old new whole steps lines bytes h n r =
+  reached_more : (old new : PlayerState D) (whole : List ℕ) (steps : List Step) (lines : List (List ℕ)) (bytes : List ℕ) → AnswersAsked state old.cluster old.met_bad (asked_of f whole) steps new.cluster new.met_bad → (sound → StaysSoundAsked state old.cluster (asked_of f whole) steps new.cluster) → new.count ≡ old.count + 1
+      → ReachedBy state sound f spelled old lines bytes → ReachedBy state sound f spelled new (lines ++ whole ∷ []) (bytes ++ flat_map (spelled new.count) steps)
+  reached_more old new whole steps lines bytes h stays n r =
       let was = r.reached in
       let script = reverse (map (asked_of f) lines) in
       let counted : new.count ≡ length script + 1 = n ∙ ap (λ k. k + 1) (sym r.is_counted ∙ sym (length-reverse (map (asked_of f) lines) ∙ length-map lines (asked_of f))) in
-      let g = goes_with old.cluster new.cluster old.met_bad new.met_bad was.run (length script + 1) (asked_of f whole) steps was.left h in record {
+      let g = goes_with old.cluster new.cluster old.met_bad new.met_bad was.run (length script + 1) (asked_of f whole) steps was.left was.fused was.standing stays h in record {
         reached = record {
           run = g.more;
           left = g.left;
           answers = subst (λ s. Answers is_built s g.more) (sym (script_more f lines whole)) (was.run, was.answers, g.goes);
           written = (λ i. was.written i ++ flat_map (spelled (counted i)) steps) ∙ sym g.written;
+          fused = g.fused;
+          standing = g.standing;
         };
         is_bad = has_bad-more f lines whole ∙ marked old.cluster new.cluster old.met_bad new.met_bad (asked_of f whole) steps (has_bad f lines) h r.is_bad;
         is_counted = length-append lines (whole ∷ []) ∙ ap (λ k. k + 1) r.is_counted ∙ sym n;
       }
 
   -- a line is answered with the text of these steps
-  pub line_answered : (old new : PlayerState D) (line : List ℕ) (steps : List Step) (before after : List ℕ) → AnswersAsked state old.cluster old.met_bad (asked_of f line) steps new.cluster new.met_bad → new.count ≡ old.count + 1
-      → after ≡ before ++ flat_map (spelled new.count) steps → AnswersLine (ReachedBy state f spelled) old new line before after
-  line_answered old new line steps before after h n e = record {
+  pub line_answered : (old new : PlayerState D) (line : List ℕ) (steps : List Step) (before after : List ℕ) → AnswersAsked state old.cluster old.met_bad (asked_of f line) steps new.cluster new.met_bad → (sound → StaysSoundAsked state old.cluster (asked_of f line) steps new.cluster) → new.count ≡ old.count + 1
+      → after ≡ before ++ flat_map (spelled new.count) steps → AnswersLine (ReachedBy state sound f spelled) old new line before after
+  line_answered old new line steps before after h stays n e = record {
     reply = flat_map (spelled new.count) steps;
     appended = e;
-    answered = λ whole lines bytes t r. reached_more old new whole steps lines bytes (subst (λ a. AnswersAsked state old.cluster old.met_bad a steps new.cluster new.met_bad) (sym (ap (asked_of f) t) ∙ asked_of-take f whole) h) n r;
+    answered = λ whole lines bytes t r.
+        let same = sym (ap (asked_of f) t) ∙ asked_of-take f whole in
+        reached_more old new whole steps lines bytes (subst (λ a. AnswersAsked state old.cluster old.met_bad a steps new.cluster new.met_bad) same h) (λ x. subst (λ a. StaysSoundAsked state old.cluster a steps new.cluster) same (stays x)) n r;
   }
 
   -- the same, of a player's parts: its cluster is handed back the memory of these steps
   pub line_shown : (old : PlayerState D) (was now left : Standing D) (bad new_bad : Bool) (count number : ℕ) (line : List ℕ) (steps : List Step) (before after : List ℕ) → record { cluster = was; met_bad = bad; count = count } ≡ old
-      → AnswersAsked state was bad (asked_of f line) steps now new_bad → left ≡ now → number ≡ count + 1 → after ≡ before ++ flat_map (spelled number) steps
-      → AnswersLine (ReachedBy state f spelled) old (record { cluster = left; met_bad = new_bad; count = number }) line before after
-  line_shown old was now left bad new_bad count number line steps before after view h back n e =
+      → AnswersAsked state was bad (asked_of f line) steps now new_bad → (sound → StaysSoundAsked state was (asked_of f line) steps now) → left ≡ now → number ≡ count + 1 → after ≡ before ++ flat_map (spelled number) steps
+      → AnswersLine (ReachedBy state sound f spelled) old (record { cluster = left; met_bad = new_bad; count = number }) line before after
+  line_shown old was now left bad new_bad count number line steps before after view h stays back n e =
       let new : PlayerState D = record { cluster = left; met_bad = new_bad; count = number } in
-      subst (λ o. AnswersLine (ReachedBy state f spelled) o new line before after) view
-      (line_answered (record { cluster = was; met_bad = bad; count = count }) new line steps before after (subst (λ c. AnswersAsked state was bad (asked_of f line) steps c new_bad) (sym back) h) n e)
+      subst (λ o. AnswersLine (ReachedBy state sound f spelled) o new line before after) view
+      (line_answered (record { cluster = was; met_bad = bad; count = count }) new line steps before after (subst (λ c. AnswersAsked state was bad (asked_of f line) steps c new_bad) (sym back) h) (λ x. subst (λ c. StaysSoundAsked state was (asked_of f line) steps c) (sym back) (stays x)) n e)
 
   -- a new player stands before any line, and needs no disk
-  pub reached_none : (p : PlayerState D) → IsLeft state p.cluster [] → p.met_bad ≡ false → p.count ≡ 0 → ReachedBy state f spelled p [] []
-  reached_none p r b n = record { reached = record { run = []; left = r; answers = refl; written = refl }; is_bad = sym b; is_counted = sym n }
+  pub reached_none : (p : PlayerState D) → IsLeft state p.cluster [] → p.met_bad ≡ false → p.count ≡ 0 → ReachedBy state sound f spelled p [] []
+  reached_none p r b n = record { reached = record { run = []; left = r; answers = refl; written = refl; fused = λ x. tt; standing = λ x. none_standing state p.cluster r }; is_bad = sym b; is_counted = sym n }
 
 -- over any kinds
 module _ {S E D : Type 0} (t : Types S E D) where

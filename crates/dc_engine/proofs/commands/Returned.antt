@@ -27,7 +27,7 @@ use Rattle.site_partitions.specs.Reaches.{Types}
 use Rattle.cluster.proofs.Laws.{history, log_left, none_made, rooms_left}
 use Rattle.dc_engine.specs.declared.framing.Framing.{Framing}
 use Rattle.dc_engine.proofs.OneReply.{is_only}
-use Rattle.dc_engine.specs.Answered.{Answered, AnsweredWhole}
+use Rattle.dc_engine.specs.Answered.{AnsweredFused, Answered, AnsweredWhole}
 use Rattle.dc_engine.specs.GivenBack.{HoldsLogOf, GivenBack, IsRoomIn}
 use Rattle.dc_engine.specs.Held.{Standing, IsLeft, Reached, HasOutOf}
 use Rattle.dc_engine.specs.Makers.{IsUnchanged, GivesBack, ReturnsAll, FailsAt, number_or_none, disk_from, with_places, next_place, first_place}
@@ -104,9 +104,9 @@ module _ {S E D : Type 0} (t : Types S E D) where
       let enough = h.enough in omega (arith, e, enough)
 
   -- a cluster that doesn't come up for the disk of one of its partitions
-  pub failed_applies : (state : D → DiskState) (sites parts : ℕ) (disks : List D) (error : MakeError D) (steps : List Step) (new : Option (WholeState E D)) → new ≡ None → HandsBack state sites parts disks error → FailsAt error steps → Applies t None (command.Cluster sites parts) steps new
+  pub failed_applies : (state : D → DiskState) (sites parts : ℕ) (disks : List D) (error : MakeError D) (steps : List Step) (new : Option (WholeState E D)) → new ≡ None → HandsBack state sites parts disks error → FailsAt state error steps → Applies t None (command.Cluster sites parts) steps new
   failed_applies state sites parts disks make.NoMemory steps new n h f = absurd f
-  failed_applies state sites parts disks (make.Partition at disk why) steps new n h f = subst (λ (c : Option (WholeState E D)). Applies t None (command.Cluster sites parts) steps c) (sym n) (none_made t sites parts at steps h.0 f.1)
+  failed_applies state sites parts disks (make.Partition at disk why) steps new n h f = subst (λ (c : Option (WholeState E D)). Applies t None (command.Cluster sites parts) steps c) (sym n) (none_made t sites parts at steps h.place f.2)
 
 module _ {E D : Type 0} where
   pub few_in : (c : Option (WholeState E D)) → SizedIn c → length (partitions_in c) ≤ 128
@@ -151,11 +151,11 @@ module _ {D : Type 0} (state : D → DiskState) where
             ap (λ d. (state d).room) s.mapped ∙ (ap (λ (t : Durable _ (Fused D)). (fused_state state (disk_of t.gates)).room) (sym (s.there s.one)) ∙ room s.one));
       }
 
-  abbrev pub reached_answered : (f : Framing) (spelled : ℕ → Step → List ℕ) (c : Standing D) (lines : List (List ℕ)) (bytes : List ℕ) → Reached state f spelled c lines bytes → Answered f spelled lines bytes
-  reached_answered f spelled c lines bytes r = record { run = r.run; answers = r.answers; history = history (types (fused_state state)) c r.run r.left; only = is_only f lines r.run r.answers (history (types (fused_state state)) c r.run r.left); written = r.written }
+  abbrev pub reached_answered : (sound : Type 0) (f : Framing) (spelled : ℕ → Step → List ℕ) (c : Standing D) (lines : List (List ℕ)) (bytes : List ℕ) → Reached state sound f spelled c lines bytes → AnsweredFused sound f spelled lines bytes
+  reached_answered sound f spelled c lines bytes r = record { answered = record { run = r.run; answers = r.answers; history = history (types (fused_state state)) c r.run r.left; only = is_only f lines r.run r.answers (history (types (fused_state state)) c r.run r.left); written = r.written }; fused = r.fused }
 
-  pub reached_whole : (f : Framing) (spelled : ℕ → Step → List ℕ) (c : Standing D) (start mid end : Maker D) → IsUnchanged start mid → ReturnsAll c mid end → (lines : List (List ℕ)) (bytes : List ℕ) → Reached state f spelled c lines bytes → AnsweredWhole f spelled state start end lines bytes
-  reached_whole f spelled c start mid end begun back lines bytes r = record {
-    answered = reached_answered f spelled c lines bytes r;
+  pub reached_whole : (sound : Type 0) (f : Framing) (spelled : ℕ → Step → List ℕ) (c : Standing D) (start mid end : Maker D) → IsUnchanged start mid → ReturnsAll c mid end → (lines : List (List ℕ)) (bytes : List ℕ) → Reached state sound f spelled c lines bytes → AnsweredWhole sound f spelled state start end lines bytes
+  reached_whole sound f spelled c start mid end begun back lines bytes r = record {
+    fully = reached_answered sound f spelled c lines bytes r;
     given_back = λ tells. returned c r.run r.left start mid end begun back tells;
   }

@@ -3,12 +3,12 @@ ghost use Rattle.std.specs.Prelude.{◌≡◌, ◌≤◌, ◌+◌, ◌*◌, ◌+
 ghost use Rattle.disk_core.specs.Fuses.{fused_state, inside};
 ghost use Rattle.disk_core.specs.States.{Rose};
 ghost use Rattle.gate_log.specs.Logs.{disk_of};
-ghost use Rattle.disk_makers.specs.Makers.{IsMade, MakesAll};
+ghost use Rattle.disk_makers.specs.Makers.{IsMade, IsSound, MakesAll};
 ghost use Rattle.site_partitions.specs.Made.{AreBlank};
 ghost use Rattle.site_partitions.specs.Reaches.{types_of};
 ghost use Rattle.cluster.specs.Reached.{SizedIn, parts_in};
 ghost use Rattle.dc_engine.specs.Held.{HasOutOf};
-ghost use Rattle.dc_engine.specs.Makers.{IsUnchanged, ReturnsAll, GivesBack, disk_from, first_place, next_place, number_or_none};
+ghost use Rattle.dc_engine.specs.Makers.{AreSure, IsUnchanged, ReturnsAll, GivesBack, disk_from, first_place, next_place, number_or_none};
 
 use crate::unanswered::Unanswered;
 use cluster::Cluster;
@@ -54,6 +54,7 @@ fn add<D: Disk + Drop>(made: &mut Vec<Fused<D>>, disk: D) -> Result<(), AllocErr
     ensures count { OnOk result (length made.new.items ≡ length made.old.items + 1) }
     ensures same_made { OnErr result (made.new.items ≡ made.old.items) }
     ensures blank { AreBlank (fused_state D.state) made.old.items → AreBlank (fused_state D.state) made.new.items }
+    ensures sure { IsSound (D.state disk) → AreSure (fused_state D.state) made.old.items → AreSure (fused_state D.state) made.new.items }
 {
     made.push(Fused::new(disk))?;
     Ok(())
@@ -74,6 +75,7 @@ fn make_one<M: Disks>(
     ensures later { (M.state disks.old).faults ≤ (M.state disks.new).faults }
     ensures cause { result ≡ Err Unanswered.NoDisk → Rose (M.state disks.old).faults (M.state disks.new).faults }
     ensures sure { MakesAll M.makes_all (result ≡ Err Unanswered.NoDisk) disks.old disks.new }
+    ensures sound { M.sound disks.old → M.sound disks.new × (AreSure (fused_state M.Disk.state) made.old.items → AreSure (fused_state M.Disk.state) made.new.items) }
     ensures same { IsUnchanged (M.state disks.old) (M.state disks.new) }
 {
     match disks.make(alloc, at) {
@@ -98,6 +100,8 @@ pub(crate) fn make_all<M: Disks>(
     requires most_parts { parts ≤ 16 }
     ensures all { IfOk result (λ made. length made.items ≡ sites * parts) }
     ensures blank { IfOk result (λ made. AreBlank (fused_state M.Disk.state) made.items) }
+    ensures sound { M.sound disks.old → M.sound disks.new }
+    ensures all_sound { IfOk result (λ made. M.sound disks.old → AreSure (fused_state M.Disk.state) made.items) }
     ensures out { OnOk result ((M.state disks.new).out ≡ (M.state disks.old).out + sites * parts) }
     ensures more { (M.state disks.old).out ≤ (M.state disks.new).out }
     ensures later { (M.state disks.old).faults ≤ (M.state disks.new).faults }
@@ -125,6 +129,7 @@ fn give_back_made<M: Disks>(disks: &mut M, parts: u8, made: Vec<Fused<M::Disk>>)
     requires enough { length made.items ≤ (M.state disks.old).out }
     ensures back { GivesBack parts first_place (map inside made.items) (M.state disks.old) (M.state disks.new) }
     ensures sure { M.makes_all disks.old → M.makes_all disks.new }
+    ensures sound { M.sound disks.old → M.sound disks.new }
 {
     let mut at = FIRST;
     for disk in made {

@@ -84,8 +84,8 @@ fn answer_block<K: Sink, R: Responder>(
     begun: &mut PendingLine,
     out: &mut Vec<u8>,
 ) -> Result<(), Fault>
-    requires held { R.holds responder.old (R.Maker.state disks.old).out }
-    ensures held { R.holds responder.new (R.Maker.state disks.new).out }
+    requires held { R.holds responder.old disks.old }
+    ensures held { R.holds responder.new disks.new }
     ensures disks_later { (R.Maker.state disks.old).faults ≤ (R.Maker.state disks.new).faults }
     ensures disks_cause { result ≡ Err Fault.NoDisk → Rose (R.Maker.state disks.old).faults (R.Maker.state disks.new).faults }
     ensures sure { MakesAll R.Maker.makes_all (result ≡ Err Fault.NoDisk) disks.old disks.new }
@@ -123,8 +123,8 @@ fn answer_end<K: Sink, R: Responder>(
     begun: &PendingLine,
     out: &mut Vec<u8>,
 ) -> Result<(), Fault>
-    requires held { R.holds responder.old (R.Maker.state disks.old).out }
-    ensures held { R.holds responder.new (R.Maker.state disks.new).out }
+    requires held { R.holds responder.old disks.old }
+    ensures held { R.holds responder.new disks.new }
     ensures disks_later { (R.Maker.state disks.old).faults ≤ (R.Maker.state disks.new).faults }
     ensures disks_cause { result ≡ Err Fault.NoDisk → Rose (R.Maker.state disks.old).faults (R.Maker.state disks.new).faults }
     ensures sure { MakesAll R.Maker.makes_all (result ≡ Err Fault.NoDisk) disks.old disks.new }
@@ -164,8 +164,8 @@ fn play_block<S: Source, K: Sink, R: Responder>(
 ) -> Result<usize, Fault>
     requires size { 0 < length block.old }
     requires some { 0 < room }
-    requires held { R.holds responder.old (R.Maker.state disks.old).out }
-    ensures held { R.holds responder.new (R.Maker.state disks.new).out }
+    requires held { R.holds responder.old disks.old }
+    ensures held { R.holds responder.new disks.new }
     ensures disks_later { (R.Maker.state disks.old).faults ≤ (R.Maker.state disks.new).faults }
     ensures disks_cause { result ≡ Err Fault.NoDisk → Rose (R.Maker.state disks.old).faults (R.Maker.state disks.new).faults }
     ensures sure { MakesAll R.Maker.makes_all (result ≡ Err Fault.NoDisk) disks.old disks.new }
@@ -201,8 +201,8 @@ fn play_end<S: Source, K: Sink, R: Responder>(
     disks: &mut R::Maker,
     buffers: &mut Buffers,
 ) -> Result<(), Fault>
-    requires held { R.holds responder.old (R.Maker.state disks.old).out }
-    ensures held { R.holds responder.new (R.Maker.state disks.new).out }
+    requires held { R.holds responder.old disks.old }
+    ensures held { R.holds responder.new disks.new }
     ensures disks_later { (R.Maker.state disks.old).faults ≤ (R.Maker.state disks.new).faults }
     ensures disks_cause { result ≡ Err Fault.NoDisk → Rose (R.Maker.state disks.old).faults (R.Maker.state disks.new).faults }
     ensures sure { MakesAll R.Maker.makes_all (result ≡ Err Fault.NoDisk) disks.old disks.new }
@@ -235,8 +235,8 @@ pub(crate) fn play_blocks<S: Source, K: Sink, R: Responder>(
 ) -> Result<(), Fault>
     requires fresh { R.reached responder.old [] [] }
     requires some { 0 < size }
-    requires held { R.holds responder.old (R.Maker.state disks.old).out }
-    ensures held { R.holds responder.new (R.Maker.state disks.new).out }
+    requires held { R.holds responder.old disks.old }
+    ensures held { R.holds responder.new disks.new }
     ensures disks_cause { result ≡ Err Fault.NoDisk → Rose (R.Maker.state disks.old).faults (R.Maker.state disks.new).faults }
     ensures sure { MakesAll R.Maker.makes_all (result ≡ Err Fault.NoDisk) disks.old disks.new }
     ensures same { OnOk result (IsUnchanged (R.Maker.state disks.old) (R.Maker.state disks.new)) }

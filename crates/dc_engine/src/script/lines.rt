@@ -22,8 +22,8 @@ fn answer_line<R: Responder>(
     begun: &mut PendingLine,
     out: &mut Vec<u8>,
 ) -> Result<(), Unanswered>
-    requires held { R.holds responder.old (R.Maker.state disks.old).out }
-    ensures held { R.holds responder.new (R.Maker.state disks.new).out }
+    requires held { R.holds responder.old disks.old }
+    ensures held { R.holds responder.new disks.new }
     ensures later { (R.Maker.state disks.old).faults ≤ (R.Maker.state disks.new).faults }
     ensures cause { result ≡ Err Unanswered.NoDisk → Rose (R.Maker.state disks.old).faults (R.Maker.state disks.new).faults }
     ensures sure { MakesAll R.Maker.makes_all (result ≡ Err Unanswered.NoDisk) disks.old disks.new }
@@ -53,8 +53,8 @@ pub(crate) fn answer_lines<R: Responder>(
     begun: &mut PendingLine,
     out: &mut Vec<u8>,
 ) -> Result<(), Unanswered>
-    requires held { R.holds responder.old (R.Maker.state disks.old).out }
-    ensures held { R.holds responder.new (R.Maker.state disks.new).out }
+    requires held { R.holds responder.old disks.old }
+    ensures held { R.holds responder.new disks.new }
     ensures later { (R.Maker.state disks.old).faults ≤ (R.Maker.state disks.new).faults }
     ensures cause { result ≡ Err Unanswered.NoDisk → Rose (R.Maker.state disks.old).faults (R.Maker.state disks.new).faults }
     ensures sure { MakesAll R.Maker.makes_all (result ≡ Err Unanswered.NoDisk) disks.old disks.new }

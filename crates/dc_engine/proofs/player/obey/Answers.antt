@@ -8,6 +8,7 @@ use Rattle.cluster.specs.Reached.{Applies}
 use Rattle.cluster.specs.Post.{WholeState}
 use Rattle.disk_core.specs.declared.fused.Fused.{Fused}
 use Rattle.site_partitions.specs.Reaches.{types_of}
+use Rattle.dc_engine.specs.Player.{StaysSoundBy}
 use Rattle.dc_engine.proofs.commands.Applied.{out_applied, out_none, makes_none}
 use Rattle.dc_engine.proofs.player.obey.Goals as goal
 
@@ -30,3 +31,11 @@ returns-clause-lacks g c = λ e. c.in-Some.ensures.lacks
 
 pub returns-in_default-clause-ok : goal.returns-in_default-clause-ok
 returns-in_default-clause-ok g c = search rules
+
+pub returns-clause-stays : goal.returns-clause-stays
+returns-clause-stays g c =
+    subst (λ (k : Command). IfOk c.make_cluster.result (λ steps. g.M.Disks.sound c.args.disks.now → StaysSoundBy (types_of g.C.Crdt.laws g.C.Crdt.spells (fused_state g.M.Disk.Disk.state)) (fused_state g.M.Disk.Disk.state) c.args.cluster.now k steps.items c.make_cluster.new.cluster)) (sym c.in-Some.ensures.some)
+    (subst (λ (o : Option (WholeState g.row.C-Effect.Denot (Fused g.row.M-Disk.Denot))). IfOk c.make_cluster.result (λ steps. g.M.Disks.sound c.args.disks.now → StaysSoundBy (types_of g.C.Crdt.laws g.C.Crdt.spells (fused_state g.M.Disk.Disk.state)) (fused_state g.M.Disk.Disk.state) o (command.Cluster c.in-Some.sites c.in-Some.parts) steps.items c.make_cluster.new.cluster)) (sym c.in-Some.ensures.lacks) c.make_cluster.ensures.stays)
+
+pub returns-in_default-clause-stays : goal.returns-in_default-clause-stays
+returns-in_default-clause-stays g c = λ sound. record { standing = c.in_ok-apply.ensures.sound; fused = c.in_ok-apply.ensures.fused }

@@ -1,13 +1,8 @@
-use Rattle.std.proofs.Common.{arith}
-use Rattle.dc_engine.proofs.commands.Applied.{out_more}
-use Rattle.dc_engine.proofs.bytes.PlayedBy.{outcome_lawful}
+use Rattle.dc_engine.proofs.bytes.PlayedBy.{outcome_kept, outcome_none}
 use Rattle.dc_engine.proofs.top.play_by.Goals as goal
 
-pub play_over-status-requires-clause-fresh : goal.play_over-status-requires-clause-fresh
-play_over-status-requires-clause-fresh g c = c.new-player.ensures.reached
-
-pub play_over-status-requires-clause-held : goal.play_over-status-requires-clause-held
-play_over-status-requires-clause-held g c = out_more _ _ 0 _ (omega arith) c.new-player.ensures.holds
+pub returns-then-is_err-clause-played : goal.returns-then-is_err-clause-played
+returns-then-is_err-clause-played g c = outcome_none _ g.F.Cutter.framing g.W.Writer.spelled g.M.Disk.Disk.state _ _
 
 pub returns-clause-played : goal.returns-clause-played
-returns-clause-played g c = outcome_lawful g.M.Disk.Disk.state g.F.Cutter.framing g.W.Writer.spelled _ _ _ _ _ _ _ c.play_over-status.ensures.same c.give_back.ensures c.play_over-status.ensures.played
+returns-clause-played g c = outcome_kept g.M.Disks.sound _ _ _ g.F.Cutter.framing g.W.Writer.spelled g.M.Disk.Disk.state _ _ _ _ _ _ c.keep_in.ensures.same c.keep_in.ensures.state c.play_over.ensures.played

@@ -9,8 +9,8 @@ returns-in_default-clause-err g c = take_all (length c.args.out.now.items) c.arg
 
 pub returns-in_ok-write_replies-in-Ok-clause-ok : goal.returns-in_ok-write_replies-in-Ok-clause-ok
 returns-in_ok-write_replies-in-Ok-clause-ok g c =
-    line_shown g.M.Disk.Disk.state g.F.Cutter.framing g.W.Writer.spelled c.args.self.now c.self.inside.cluster c.answer_to.new.cluster c.hand_back.new.self c.self.inside.met_bad c.answer_to.new.met_bad c.self.inside.count c.in-Some.number c.args.line.now c.in-Ok.steps.items c.args.out.now.items c.write_replies.new.out.items
-    c.self.view_is c.in-Ok.ensures.ok c.hand_back.ensures (search rules)
+    line_shown g.M.Disk.Disk.state g.G.Ground.sound g.F.Cutter.framing g.W.Writer.spelled c.args.self.now c.self.inside.cluster c.answer_to.new.cluster c.hand_back.new.self c.self.inside.met_bad c.answer_to.new.met_bad c.self.inside.count c.in-Some.number c.args.line.now c.in-Ok.steps.items c.args.out.now.items c.write_replies.new.out.items
+    c.self.view_is c.in-Ok.ensures.ok (λ x. c.in-Ok.ensures.stays (c.requires.ground x)) c.hand_back.ensures (search rules)
     (c.in_ok-write_replies-in-Ok.ensures.ok ∙ ap (λ l. c.args.out.now.items ++ flat_map (g.W.Writer.spelled c.in-Some.number) l) c.as_slice.ensures.value)
 
 pub returns-in-Err-clause-err : goal.returns-in-Err-clause-err

@@ -12,6 +12,7 @@ loop-disk-preserved g c = record {
       (subst (λ d. TakesBack c.loop-disk.at d (g.M.Disks.state c.loop-disk.disks) (g.M.Disks.state c.give_back.new.self)) c.into_inner.ensures c.give_back.ensures.takes)
       c.next-at.result c.next-at.ensures;
   sure = λ s. c.give_back.ensures.makes_all (c.loop-disk.invariant.sure s);
+  sound = λ s. c.give_back.ensures.sound (c.loop-disk.invariant.sound s);
 }
 
 pub returns-clause-back : goal.returns-clause-back

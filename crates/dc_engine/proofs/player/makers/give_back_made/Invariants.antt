@@ -7,4 +7,5 @@ abbrev pub invariant-loop-disk : goal.invariant-loop-disk
 invariant-loop-disk g l = record {
   giving : IsGiving l.parts (map inside l.fn.made.items) (g.M.Disks.state l.fn.disks) l.at (map inside l.disk-iterator.rest.items) (g.M.Disks.state l.disks);
   sure : g.M.Disks.makes_all l.fn.disks → g.M.Disks.makes_all l.disks;
+  sound : g.M.Disks.sound l.fn.disks → g.M.Disks.sound l.disks;
 }

@@ -8,7 +8,7 @@ invariant-loop-room g l = let S = g.S.Source in let K = g.K.Sink in let state = 
   read : S.faults l.fn.source ≤ S.faults l.source;
   wrote : K.faults l.fn.sink ≤ K.faults l.sink;
   progress : Progress g.R.Cutter.Cutter.framing l.most g.R.Responder.reached l.responder (S.left l.fn.source) (S.left l.source) (K.held l.fn.sink) (K.held l.sink) l.buffers.begun l.room;
-  held : g.R.Responder.holds l.responder (state l.disks).out;
+  held : g.R.Responder.holds l.responder l.disks;
   counted : (state l.fn.disks).faults ≤ (state l.disks).faults;
   same : IsUnchanged (state l.fn.disks) (state l.disks);
   sure : g.R.Maker.Disks.makes_all l.fn.disks → g.R.Maker.Disks.makes_all l.disks;
