@@ -76,17 +76,23 @@ fn of_switch(alloc: Global, answer: Result<(), SwitchError>) -> Result<String, A
     }
 }
 
-/// What opening the log of a disk answers: its payloads, each as its place and its bytes in hexadecimal.
+/// The payloads that were read at opening, each as its place and its bytes in hexadecimal.
+pub(crate) fn of_payloads<D: Disk + Drop>(
+    alloc: Global,
+    log: &TwinLog<D>,
+) -> Result<String, AllocError> {
+    let mut out = String::from_str(alloc, "opened")?;
+    for (place, payload) in log.payloads() {
+        write!(out, " {place}:")?;
+        words::put_hex(payload, &mut out)?;
+    }
+    Ok(out)
+}
+
+/// What opening the log of a disk answers.
 fn of_opening<D: Disk + Drop>(alloc: Global, disk: D) -> Result<String, AllocError> {
     match TwinLog::open(alloc, disk) {
-        Ok(log) => {
-            let mut out = String::from_str(alloc, "opened")?;
-            for (place, payload) in log.payloads() {
-                write!(out, " {place}:")?;
-                words::put_hex(payload, &mut out)?;
-            }
-            Ok(out)
-        }
+        Ok(log) => of_payloads(alloc, &log),
         Err((_, error)) => words::of_open_error(alloc, error),
     }
 }

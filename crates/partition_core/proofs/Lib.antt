@@ -33,3 +33,4 @@ mod HeldIds
 mod Sending
 mod ReadCall
 pub mod Callers
+pub mod Arming
