@@ -6,8 +6,8 @@ use Rattle.site_vector.specs.declared.ids.TxId.{TxId}
 use Rattle.site_vector.specs.Ids.{same_part}
 use Rattle.site_vector.specs.Order.{same_part_is}
 use Rattle.disk_core.specs.States.{DiskState, Fails}
-use Rattle.twin_log.specs.Logs.{disk_of}
-use Rattle.twin_log.specs.declared.log.TwinLog.{TwinLog}
+use Rattle.gate_log.specs.Logs.{disk_of}
+use Rattle.gate_log.specs.declared.log.GateLog.{GateLog}
 use Rattle.crdt_core.specs.KindsOf.{Kinds}
 use Rattle.world_model.specs.declared.command.Command.{Command}
 use Rattle.world_model.specs.declared.step.Step.TheVariants as step
@@ -133,7 +133,7 @@ module _ {S E D : Type 0} (w : Types S E D) (old new : Held E D) (at : PartId) (
       let x = f whole b.1 in
       let lets = sym (number_lets whole (calls_of run) at run l.step) ∙ ap lets_burn numbers in
       fuel_plain w old new at whole run l placed doubt k.moves events r shown Crashed (k.goes events r) numbers b.0 asks refl
-      (λ lets. burns_same _ _ (ap (λ (g : TwinLog D). (w.state (disk_of g)).left) k.disk))
+      (λ lets. burns_same _ _ (ap (λ (g : GateLog D). (w.state (disk_of g)).left) k.disk))
       (lit_crashed w old new at k.moves (place_by k.moves Crashed (k.goes events r)) whole run l lets k.disk k.down x.lit) x
 
   pub fueled_stopped : (k : StaysDownAt w old new at) → Fails (disk_in w.state k.moves.before) (disk_in w.state k.moves.after) → (disk_in w.state k.moves.before).left ≢ Some 0 → numbered run l.step ≡ step.Disk at → l.step ≡ step.Disk at → (is_called l.command l.step ≡ true → (asked_by (calls_of run) run l.command l.step).call ≡ world.Restart) → Fueled w.state old run events → Fueled w.state new (l ∷ run) ((record { at = at; event = RestartCut }) ∷ events)

@@ -8,9 +8,9 @@ use Rattle.site_vector.specs.Ids.{same_part}
 use Rattle.site_vector.specs.Order.{same_part_refl}
 use Rattle.disk_core.specs.States.{DiskState, Fails, fewer}
 use Rattle.crdt_core.specs.KindsOf.{Kinds}
-use Rattle.twin_log.specs.Logs.{disk_of}
+use Rattle.gate_log.specs.Logs.{disk_of}
 use Rattle.gate_log.specs.Rest.{Lowers}
-use Rattle.twin_log.specs.declared.log.TwinLog.{TwinLog}
+use Rattle.gate_log.specs.declared.log.GateLog.{GateLog}
 use Rattle.world_model.specs.declared.step.Step.{Step}
 use Rattle.world_model.specs.declared.step.Step.TheVariants as step
 use Rattle.world_model.specs.commands.Cluster.{has_cluster, parts_of}
@@ -202,7 +202,7 @@ module _ {S E D : Type 0} (w : Types S E D) (old new : Held E D) (at : PartId) (
         d)
       where
         stays : left_after ≡ left_before
-        stays = ap (λ (g : TwinLog D). (w.state (disk_of g)).left) same
+        stays = ap (λ (g : GateLog D). (w.state (disk_of g)).left) same
 
     -- a restart came up
     pub lit_up : lets_burn l.step ≡ true → (most : ℕ) → Lowers most left_before left_after → left_after ≢ Some 0 → IsLit w.state old whole run → IsLit w.state new whole (l ∷ run)

@@ -1,11 +1,11 @@
 -- Where a call found no room, and that a room is the same from then on.
-use Rattle.std.proofs.Common.{◌≡◌, ◌<◌, ◌≤◌, ℕ, ◌+◌, Bool, true, false, List, [], ◌∷◌, length, refl, sym, ap, ◌∙◌, subst, true≢false, Result, Ok, Err, arith}
+use Rattle.std.proofs.Common.{◌≡◌, ◌<◌, ℕ, ◌+◌, Bool, true, false, List, [], ◌∷◌, refl, sym, ap, ◌∙◌, subst, true≢false, Result, Ok, Err}
 use Rattle.site_vector.specs.declared.ids.PartId.{PartId}
 use Rattle.crdt_core.specs.KindsOf.{Kinds}
-use Rattle.twin_log.specs.Logs.{gate_of, area_of}
+use Rattle.gate_log.specs.Log.{end_of}
+use Rattle.gate_log.specs.Logs.{gate_of}
 use Rattle.partition_log.specs.Codec.{Codec}
-use Rattle.partition_log.specs.Logs.{HasRecords, size}
-use Rattle.partition_log.proofs.Sizes.{gate_of_records}
+use Rattle.partition_log.specs.Logs.{payloads_of, size}
 use Rattle.partition_core.specs.declared.answers.Refusal as part
 use Rattle.partition_core.specs.declared.answers.Refusal.TheVariants as answer
 use Rattle.partition_core.specs.Answers.{cause}
@@ -16,7 +16,6 @@ use Rattle.world_model.specs.rules.Asking.{asked_by}
 use Rattle.world_model.specs.rules.Event.{Ask, AskTick, AskBegin, AskPrepare, AskDecide, AskFinish, AskAbort, AskTake, Event, Entry, Refused, Refusal, HasNoRoom}
 use Rattle.world_model.specs.rules.Partition.{PartState, MayDo, IsRefused, records}
 use Rattle.world_model.specs.rules.World.{IsWorldRun}
-use Rattle.crdt_core.specs.declared.record.Record.{Record}
 use Rattle.site_partitions.specs.Answers.{FindsNoRoom, GoesOn, OnRuns}
 use Rattle.site_partitions.specs.Held.{Held}
 use Rattle.site_partitions.specs.Moves.{Moves}
@@ -42,7 +41,7 @@ module _ {S E : Type 0} (kinds : Kinds S E) (codec : Codec E) (sites parts : ℕ
 
   module _ (Q : PartId → ℕ → Type 0) (so : (p : PartId) (n : ℕ) → IsPlace sites parts p → R p n → Q p n) where
     passes_as : (run : List (Entry E)) (at : PartId) (asked : Ask E) (n : ℕ) → PassesRoom kinds codec sites parts R run at asked n → PassesRoom kinds codec sites parts Q run at asked n
-    passes_as run at asked n x = record { place = x.place; is = so at n x.place x.is; state = x.state; is_run = x.is_run; what = x.what; asks = x.asks; may = x.may; area = x.area; images = x.images; behind = x.behind; few = x.few; past = x.past }
+    passes_as run at asked n x = record { place = x.place; is = so at n x.place x.is; state = x.state; is_run = x.is_run; what = x.what; asks = x.asks; may = x.may; past = x.past }
 
     finds_as : (run : List (Entry E)) (at : PartId) (e : Event E) → FindsRoom kinds codec sites parts R run at e → FindsRoom kinds codec sites parts Q run at e
     finds_as run at (Refused asked (HasNoRoom n)) x = passes_as run at asked n x
@@ -52,10 +51,6 @@ module _ {S E : Type 0} (kinds : Kinds S E) (codec : Codec E) (sites parts : ℕ
     pub rooms_as : (run : List (Entry E)) → FindRooms kinds codec sites parts R run → FindRooms kinds codec sites parts Q run
     rooms_as [] x = tt
     rooms_as (e ∷ run) x = (finds_as run e.at e.event x.0, rooms_as run x.1)
-
--- a room that is passed by the place of a gate
-passes_by : (room gate images area log more : ℕ) → room < gate + more + 1 → gate + images ≡ area + 5 + log → room + images < area + 5 + log + more + 1
-passes_by room gate images area log more past long = omega (arith, past, long)
 
 module _ {S E D : Type 0} (w : Types S E D) where
   -- calls leave the rooms of disks
@@ -82,21 +77,19 @@ module _ {S E D : Type 0} (w : Types S E D) where
     stands_there : StandsAt w old.sites old.parts at m.before (r.state at)
     stands_there = subst (λ t. StandsAt w old.sites old.parts at t (r.state at)) (m.there m.before) (r.each at (place_of w old new at m run (Refused ask (HasNoRoom room)) next) m.before)
 
-    -- it is up, with the log of its state
-    has_log : HasRecords w.codec w.state m.before.gates (r.state at).log
-    has_log = by_down (is_down m.before) refl
+    -- its log ends where its gate is
+    gate_there : gate_of m.before.gates ≡ end_of (payloads_of w.codec (r.state at).log)
+    gate_there = by_down (is_down m.before) refl
       where
-        by_down : (b : Bool) → is_down m.before ≡ b → HasRecords w.codec w.state m.before.gates (r.state at).log
+        by_down : (b : Bool) → is_down m.before ≡ b → gate_of m.before.gates ≡ end_of (payloads_of w.codec (r.state at).log)
         by_down true e = let d : StandsDown w.codec w.state m.before (r.state at) = subst (λ c. StandsSo w.codec w.state m.before (r.state at) c) e stands_there.stands in absurd (true≢false (sym full_up ∙ d.down))
-        by_down false e = let u : StandsUp w.codec w.state m.before (r.state at) = subst (λ c. StandsSo w.codec w.state m.before (r.state at) c) e stands_there.stands in u.log
+        by_down false e = let u : StandsUp w.codec w.state m.before (r.state at) = subst (λ c. StandsSo w.codec w.state m.before (r.state at) c) e stands_there.stands in u.log.is_open.at_rest.place
 
     -- so a call that finds no room passes it
     pub passes : (May : OnRuns w old) → May run r → {Such : Event E → Type 0} → FindsNoRoom w old new May at ask m Such room → ((what : Event E) → Such what → asked_by what ≡ ask) → PassesRoom w.kinds w.codec old.sites old.parts (IsRoomAt w.state old) run at ask room
     passes May may f asks =
         let full = f.1 run r may in
         let s = stands_there in
-        let stands = has_log.is_open.at_rest.stands in
-        let long = gate_of_records w.codec w.state m.before.gates (r.state at).log has_log in
         record {
           place = place_of w old new at m run (Refused ask (HasNoRoom room)) next;
           is = λ other. ap (λ (t : Durable E D). (disk_in w.state t).room) (m.there other) ∙ sym f.0;
@@ -105,11 +98,7 @@ module _ {S E D : Type 0} (w : Types S E D) where
           what = full.what;
           asks = asks full.what full.shows;
           may = subst (λ n. MayDo w.kinds n old.parts at (r.state at) full.what) s.sites_are (subst (λ n. MayDo w.kinds m.before.tables.sites n at (r.state at) full.what) s.parts_are (subst (λ i. MayDo w.kinds m.before.tables.sites m.before.tables.parts i (r.state at) full.what) s.id full.may));
-          area = area_of m.before.gates;
-          images = long.0;
-          behind = subst (λ n. 25 ≤ n) (sym stands.begins) stands.log.past;
-          few = long.1;
-          past = passes_by room (gate_of m.before.gates) long.0 (area_of m.before.gates) (size w.codec (r.state at).log) (size w.codec (records (r.state at) full.what)) full.past long.2;
+          past = subst (λ n. room < n + size w.codec (records (r.state at) full.what) + 1) gate_there full.past;
         }
 
   -- the same of the cluster after the call, which is that before

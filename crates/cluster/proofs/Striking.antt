@@ -171,4 +171,4 @@ module _ {S E D : Type 0} (types : Types S E D) (c : LiveState E D) (p : PartId)
       let finds = k.1 (entries x.reached.calls) r in
       let here : StandsAt types c.sites.sites c.sites.parts p m.before (r.state p) = subst (λ t. StandsAt types c.sites.sites c.sites.parts p t (r.state p)) (m.there m.before) (r.each p place m.before) in
       let fit = all_fit types.kinds c.sites.sites c.sites.parts (entries x.reached.calls) r.state r.is_run p finds.log finds.found in
-      some_none finds.unfit.unfit.number (sym fit ∙ ((λ i. unfit (sym here.sites_are i) (sym here.parts_are i) (sym here.id i) finds.log) ∙ finds.unfit.unfit.first))
+      some_none finds.unfit.number (sym fit ∙ ((λ i. unfit (sym here.sites_are i) (sym here.parts_are i) (sym here.id i) finds.log) ∙ finds.unfit.first))

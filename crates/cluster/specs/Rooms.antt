@@ -1,10 +1,11 @@
 -- Where a call found no room on its partition's disk: what it would have written doesn't fit behind the log that stood there.
-use Rattle.std.specs.Prelude.{◌≡◌, ◌<◌, ◌≤◌, ℕ, ◌+◌, List, [], ◌∷◌, length, ⊤}
+use Rattle.std.specs.Prelude.{◌≡◌, ◌<◌, ℕ, ◌+◌, List, [], ◌∷◌, ⊤}
 use Rattle.site_vector.specs.declared.ids.PartId.{PartId}
 use Rattle.crdt_core.specs.KindsOf.{Kinds}
 use Rattle.disk_core.specs.States.{DiskState}
+use Rattle.gate_log.specs.Log.{end_of}
 use Rattle.partition_log.specs.Codec.{Codec}
-use Rattle.partition_log.specs.Logs.{size}
+use Rattle.partition_log.specs.Logs.{payloads_of, size}
 use Rattle.partition_core.specs.Durable.{Durable}
 use Rattle.world_model.specs.lines.Places.{IsPlace}
 use Rattle.world_model.specs.rules.Asking.{asked_by}
@@ -17,7 +18,7 @@ use Rattle.cluster.specs.Same.{room_at}
 
 module _ {S E : Type 0} (kinds : Kinds S E) (codec : Codec E) (sites parts : ℕ) (IsRoom : PartId → ℕ → Type 0) where
   -- The disk of the place has this room; what was asked could be done as the run left the partition; and its log, with the records of
-  -- that and the closed gate, passes the room, from where its area stood, in whose image so many records took one byte less each.
+  -- that and the closed gate, passes the room.
   pub record PassesRoom (run : List (Entry E)) (at : PartId) (asked : Ask E) (room : ℕ) : Type 0 where
     pub place : IsPlace sites parts at
     pub is : IsRoom at room
@@ -26,11 +27,7 @@ module _ {S E : Type 0} (kinds : Kinds S E) (codec : Codec E) (sites parts : ℕ
     pub what : Event E
     pub asks : asked_by what ≡ asked
     pub may : MayDo kinds sites parts at (state at) what
-    pub area : ℕ
-    pub images : ℕ
-    pub behind : 25 ≤ area
-    pub few : images ≤ length (state at).log
-    pub past : room + images < area + 5 + size codec (state at).log + size codec (records (state at) what) + 1
+    pub past : room < end_of (payloads_of codec (state at).log) + size codec (records (state at) what) + 1
 
   -- so it was, where an event says so
   abbrev pub FindsRoom : List (Entry E) → PartId → Event E → Type 0

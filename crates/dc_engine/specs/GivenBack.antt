@@ -4,8 +4,7 @@ use Rattle.site_vector.specs.declared.ids.PartId.{PartId}
 use Rattle.crdt_core.specs.declared.record.Record.{Record}
 use Rattle.disk_core.specs.States.{DiskState}
 use Rattle.disk_makers.specs.Makers.{Maker}
-use Rattle.twin_log.specs.Rests.{AtRest}
-use Rattle.twin_log.specs.declared.spot.Spot.{Spot}
+use Rattle.gate_log.specs.Rest.{AtRest}
 use Rattle.partition_log.specs.Logs.{payloads_of, are_spelled}
 use Rattle.world_model.specs.commands.Cluster.{sites_of, parts_of}
 use Rattle.world_model.specs.rules.Event.{Entry}
@@ -24,8 +23,8 @@ use Rattle.dc_engine.specs.ObjectKinds.{Effect, codec, kinds}
 pub record HoldsLogOf (sites parts : ℕ) (events : List (Entry Effect)) (p : PartId) (disk : DiskState) : Type 0 where
   pub log : List (Record Effect)
   pub left : IsLogOf (plan_of sites parts events) events p log
-  pub spot : Spot
-  pub at_rest : AtRest disk spot (payloads_of codec log)
+  pub end : ℕ
+  pub at_rest : AtRest disk end (payloads_of codec log)
   pub spelled : are_spelled codec log ≡ true
 
 -- this is the room of the disk of a partition, one of these

@@ -5,7 +5,7 @@ use Rattle.disk_core.specs.Fuses.{inside}
 use Rattle.disk_core.specs.States.{DiskState}
 use Rattle.disk_core.specs.declared.fused.Fused.{Fused}
 use Rattle.disk_makers.specs.Makers.{Maker, IsSound}
-use Rattle.twin_log.specs.Logs.{disk_of}
+use Rattle.gate_log.specs.Logs.{disk_of}
 use Rattle.partition_core.specs.Durable.{Durable}
 use Rattle.partition_core.specs.declared.restart.RestartError.TheVariants as restart
 use Rattle.world_model.specs.declared.step.Step.{Step}

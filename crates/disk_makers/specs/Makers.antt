@@ -1,7 +1,7 @@
 -- What a maker of disks is, and how its calls change it.
-use Rattle.std.specs.Prelude.{◌≡◌, ℕ, ◌+◌, ◌≤◌, Bool, true, false, List, [], ◌∷◌, ◌++◌, None, IsTrue, Result, Err, IfOk, OnOk, OnErr}
+use Rattle.std.specs.Prelude.{◌≡◌, ℕ, ◌+◌, ◌≤◌, Bool, true, false, List, [], ◌∷◌, ◌++◌, Option, None, IsTrue, Result, Err, IfOk, OnOk, OnErr}
 use Rattle.disk_core.specs.States.{DiskState, Rose}
-use Rattle.twin_log.specs.Rests.{IsEmptyLog}
+use Rattle.gate_log.specs.Rest.{IsEmptyLog}
 use Rattle.site_vector.specs.declared.ids.PartId.{PartId}
 use Rattle.disk_makers.specs.declared.error.MakeFault.{MakeFault}
 use Rattle.disk_makers.specs.declared.error.MakeFault.TheVariants.{Failed}

@@ -5,9 +5,9 @@ ghost use Rattle.disk_makers.specs.Makers.{IsMade, IsSound};
 
 use crate::{Disks, MakeFault};
 use disk_core::{Calls, MemDisk};
+use gate_log::format;
 use site_vector::PartId;
 use std::alloc::{AllocError, Global};
-use twin_log::format;
 
 /// A maker of disks in memory, all of one room. It keeps the disks that are given back.
 ///

@@ -6,10 +6,10 @@ ghost use Rattle.disk_makers.specs.Makers.{IsMade, IsSound, Makes, MakesAll, Mak
 use crate::backing::or_failed;
 use crate::{Disks, FileDisk, MakeFault, SystemFile};
 use disk_core::Disk;
+use gate_log::format;
 use site_vector::PartId;
 use std::alloc::{AllocError, Global};
 use std::fs::{File, Files, OpenFile};
-use twin_log::format;
 
 /// The greatest length of a disk.
 const ROOM: u64 = 2_147_483_648;

@@ -2,14 +2,13 @@
 ghost use Rattle.gate_log.specs.Logs.{IsReady};
 
 use crate::logs::new_log;
-use crate::{twin, words};
+use crate::words;
 use disk_core::{Disk, Fused, MemDisk};
 use disk_makers::{Disks, MakeFault, MemDisks, RealDisks};
 use gate_log::GateLog;
 use site_vector::PartId;
 use std::alloc::{AllocError, Global};
 use std::{fs, io};
-use twin_log::TwinLog;
 
 const FIRST: [u8; 3] = [97, 97, 97];
 
@@ -62,9 +61,9 @@ pub(crate) fn print_opening(rt: &HostRuntime, call: u64) -> io::Result<()> {
 /// What opening the log of a new disk answers. The disk is given back.
 fn of_made<M: Disks>(alloc: Global, makers: &mut M, part: PartId) -> Result<String, AllocError> {
     match makers.make(alloc, part) {
-        Ok(disk) => match TwinLog::open(alloc, disk) {
+        Ok(disk) => match GateLog::open(alloc, disk) {
             Ok(log) => {
-                let opened = twin::of_payloads(alloc, &log);
+                let opened = words::of_payloads(alloc, &log);
                 makers.give_back(part, log.close());
                 opened
             }
@@ -110,7 +109,7 @@ fn of_appended<M: Disks>(
     let Ok(disk) = makers.make(alloc, part) else {
         return String::from_str(alloc, "not made");
     };
-    match TwinLog::open(alloc, disk) {
+    match GateLog::open(alloc, disk) {
         Ok(mut log) => {
             let first = words::of_append(alloc, log.append(&FIRST))?;
             let second = words::of_append(alloc, log.append(&THIRD))?;

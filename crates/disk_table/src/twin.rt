@@ -76,23 +76,17 @@ fn of_switch(alloc: Global, answer: Result<(), SwitchError>) -> Result<String, A
     }
 }
 
-/// The payloads that were read at opening, each as its place and its bytes in hexadecimal.
-pub(crate) fn of_payloads<D: Disk + Drop>(
-    alloc: Global,
-    log: &TwinLog<D>,
-) -> Result<String, AllocError> {
-    let mut out = String::from_str(alloc, "opened")?;
-    for (place, payload) in log.payloads() {
-        write!(out, " {place}:")?;
-        words::put_hex(payload, &mut out)?;
-    }
-    Ok(out)
-}
-
-/// What opening the log of a disk answers.
+/// What opening the log of a disk answers: its payloads, each as its place and its bytes in hexadecimal.
 fn of_opening<D: Disk + Drop>(alloc: Global, disk: D) -> Result<String, AllocError> {
     match TwinLog::open(alloc, disk) {
-        Ok(log) => of_payloads(alloc, &log),
+        Ok(log) => {
+            let mut out = String::from_str(alloc, "opened")?;
+            for (place, payload) in log.payloads() {
+                write!(out, " {place}:")?;
+                words::put_hex(payload, &mut out)?;
+            }
+            Ok(out)
+        }
         Err((_, error)) => words::of_open_error(alloc, error),
     }
 }

@@ -1,7 +1,7 @@
 // Partitions' logs on disks that crash, are full, or hold any bytes.
 ghost use Rattle.std.specs.Prelude.{◌≡◌, ◌≤◌, [], true, IsTrue, IfOk, IfSome};
 ghost use Rattle.disk_core.specs.States.{bytes_of};
-ghost use Rattle.twin_log.specs.Logs.{IsReady};
+ghost use Rattle.gate_log.specs.Logs.{IsReady};
 ghost use Rattle.log_records.specs.Records.{can_put_record};
 ghost use Rattle.partition_log.specs.Gates.{gates_of};
 
@@ -9,11 +9,11 @@ use crate::words::{bytes_of as bytes_of_digits, name_of};
 use crdt_core::{Crdt, Record};
 use crdt_counters::CounterPn;
 use disk_core::{Disk, Fused, MemDisk, SureDisk};
+use gate_log::{AppendError, OpenError, format};
 use log_records::take;
 use partition_log::{PartLog, record_at};
 use site_vector::{TxId, VTime};
 use std::alloc::{AllocError, Global};
-use twin_log::{AppendError, OpenError, format};
 
 /// A Prepare of 1.1#101 at 1002, of one update.
 const PREPARE: &str =

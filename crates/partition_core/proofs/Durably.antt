@@ -6,10 +6,10 @@ use Rattle.disk_core.specs.Images.{Content}
 use Rattle.disk_core.specs.States.{DiskState, Story, GoesOn, fewer, Spared}
 use Rattle.disk_core.specs.Moments.{EachImage, EachImageOfAll, contents, AtEachMoment}
 use Rattle.disk_core.proofs.Moments.{at_first}
-use Rattle.twin_log.specs.Logs.{disk_of, spot_of, gate_of, is_closed}
+use Rattle.gate_log.specs.Logs.{disk_of, gate_of, is_closed}
 use Rattle.gate_log.specs.Rest.{Lowers}
-use Rattle.twin_log.proofs.Holds.{log_left}
-use Rattle.twin_log.specs.declared.log.TwinLog.{TwinLog}
+use Rattle.gate_log.proofs.Steps.{is_log}
+use Rattle.gate_log.specs.declared.log.GateLog.{GateLog}
 use Rattle.gate_log.specs.declared.error.AppendError.{AppendError}
 use Rattle.gate_log.specs.declared.error.AppendError.TheVariants as append
 use Rattle.partition_log.specs.Codec.{Codec}
@@ -69,7 +69,7 @@ module _ {E : Type 0} (p : PartState E) (e : Event E) where
   underway_down d = ap (λ b. if b then records p (attempt e) else p.torn) d
 
 -- the same partition with this log
-abbrev pub with_log : {E D : Type 0} → Durable E D → TwinLog D → Durable E D
+abbrev pub with_log : {E D : Type 0} → Durable E D → GateLog D → Durable E D
 with_log old g = record { tables = old.tables; gates = g; crashed = old.crashed }
 
 -- the event is done, and adds these records
@@ -112,7 +112,7 @@ module _ {S E D : Type 0} (kinds : Kinds S E) (codec : Codec E) (state : D → D
   }
 
   -- an append that isn't refused for want of room or memory had the room
-  roomy : {R : Type 0} (r : Result R AppendError) (g : TwinLog D) (recs : List (Record E)) → Appends codec state r old.gates g recs → is_closed old.gates ≡ false → ((room : ℕ) → r ≢ Err (append.Full room)) → r ≢ Err append.NoMemory
+  roomy : {R : Type 0} (r : Result R AppendError) (g : GateLog D) (recs : List (Record E)) → Appends codec state r old.gates g recs → is_closed old.gates ≡ false → ((room : ℕ) → r ≢ Err (append.Full room)) → r ≢ Err append.NoMemory
       → gate_of old.gates + size codec recs + 1 ≤ (disk_in state old).room
   roomy r g recs a still_open not_full fed = ⊎_elim
       (λ (past : (disk_in state old).room < gate_of old.gates + size codec recs + 1). absurd (not_full (disk_in state old).room (a.full still_open past fed)))
@@ -152,7 +152,7 @@ module _ {S E D : Type 0} (kinds : Kinds S E) (codec : Codec E) (state : D → D
     alive = neither old.crashed (is_closed old.gates) up
 
     pub images : (p : PartState E) (rs : List (Record E)) → HasRecords codec state old.gates p.log → EachImage (HoldsFront codec p.log rs) (disk_in state old).story.now
-    images p rs has = λ image left. (p.log, found_itself p.log rs, record { format = (spot_of old.gates).format; is_log = log_left (disk_in state old) (spot_of old.gates) (payloads_of codec p.log) image has.is_open.at_rest left; spelled = has.spelled })
+    images p rs has = λ image left. (p.log, found_itself p.log rs, record { is_log = is_log (disk_in state old).story.now (payloads_of codec p.log) image has.is_open.at_rest.settled has.is_open.at_rest.log left; spelled = has.spelled })
 
     -- nothing is written of an event that adds no records
     pub still : (p : PartState E) (e : Event E) → StandsUp codec state old p → records p (attempt e) ≡ [] → AtEachMoment (disk_in state old).story (disk_in state old).story (HoldsFront codec p.log (underway p e))
@@ -217,7 +217,7 @@ module _ {S E D : Type 0} (kinds : Kinds S E) (codec : Codec E) (state : D → D
     module _ {A R : Type 0} (asked : Ask E) (Shows : A → Event E → Type 0) (recs : List (Record E))
         (would : (p : PartState E) → Stands old.tables p → Given p → Would kinds old.tables p (AnySuch Shows) recs)
         (roomless : (p : PartState E) (n : ℕ) → Stands old.tables p → Given p → IsDue kinds old.tables.sites old.tables.parts old.tables.id p asked (HasNoRoom n)) where
-      pub stopped_call : (e : AppendError) (g : TwinLog D) → Appends {T = R} codec state (Err e) old.gates g recs → CallsOn kinds codec state old (with_log old g) Given asked Shows (Err (stopped e))
+      pub stopped_call : (e : AppendError) (g : GateLog D) → Appends {T = R} codec state (Err e) old.gates g recs → CallsOn kinds codec state old (with_log old g) Given asked Shows (Err (stopped e))
       stopped_call append.NoMemory g a = ap (with_log old) (a.refused (λ h. cc))
       stopped_call append.Closed g a = absurd (true≢false (sym (a.was_closed refl) ∙ alive.1))
       stopped_call (append.Full room) g a =
@@ -236,8 +236,8 @@ module _ {S E D : Type 0} (kinds : Kinds S E) (codec : Codec E) (state : D → D
             },
           )
         where
-          fitting : (room : ℕ) (g : TwinLog D) → Appends {T = R} codec state (Err (append.Full room)) old.gates g recs → g ≡ old.gates → room ≡ (disk_in state old).room → gate_of old.gates < room
-          fitting room g a same_gates is = subst (λ n. gate_of old.gates < n) (sym is) (subst (λ (l : TwinLog D). gate_of l < (state (disk_of l)).room) same_gates a.ready.fits)
+          fitting : (room : ℕ) (g : GateLog D) → Appends {T = R} codec state (Err (append.Full room)) old.gates g recs → g ≡ old.gates → room ≡ (disk_in state old).room → gate_of old.gates < room
+          fitting room g a same_gates is = subst (λ n. gate_of old.gates < n) (sym is) (subst (λ (l : GateLog D). gate_of l < (state (disk_of l)).room) same_gates a.ready.fits)
 
           full_step : (room : ℕ) → StepsOn kinds codec state old old Given (λ e. e ≡ Refused asked (HasNoRoom room))
           full_step room = record {

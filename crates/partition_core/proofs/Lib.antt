@@ -33,4 +33,3 @@ mod HeldIds
 mod Sending
 mod ReadCall
 pub mod Callers
-pub mod Arming

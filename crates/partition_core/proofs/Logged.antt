@@ -5,8 +5,8 @@ use Rattle.std.proofs.lemmas.Bool.{true≢false, cases_Bool}
 use Rattle.disk_core.specs.States.{DiskState}
 use Rattle.disk_core.specs.Moments.{EachImage}
 use Rattle.disk_core.proofs.Moments.{at_first}
-use Rattle.twin_log.specs.Logs.{IsReady}
-use Rattle.twin_log.specs.declared.log.TwinLog.{TwinLog}
+use Rattle.gate_log.specs.Logs.{IsReady}
+use Rattle.gate_log.specs.declared.log.GateLog.{GateLog}
 use Rattle.gate_log.specs.declared.error.AppendError.{AppendError}
 use Rattle.partition_log.specs.Codec.{Codec}
 use Rattle.partition_log.specs.Appends.{Appends}
@@ -66,7 +66,7 @@ module _ {S E D : Type 0} (kinds : Kinds S E) (codec : Codec E) (state : D → D
   opened_rest G Shows v t e h = subst (λ x. StepsOn kinds codec state x x G Shows) e h
 
 -- a partition on its disk, of its tables and its log
-abbrev pub on_disk : {E D : Type 0} → Tables E → TwinLog D → Bool → Durable E D
+abbrev pub on_disk : {E D : Type 0} → Tables E → GateLog D → Bool → Durable E D
 on_disk t g b = record { tables = t; gates = g; crashed = b }
 
 module _ {S E D : Type 0} (kinds : Kinds S E) (codec : Codec E) (state : D → DiskState) (old : Durable E D) where
@@ -103,14 +103,14 @@ module _ {S E D : Type 0} (kinds : Kinds S E) (codec : Codec E) (state : D → D
     tick_rises : (p : PartState E) → Stands old.tables p → Rises p.log → Rises (grown p.log (leases w))
     tick_rises p h r = subst (λ l. Rises (grown p.log l)) (tick_adds p h) (lease_rises p.log n top r)
 
-    pub tick_done : {R : Type 0} (x : R) (g : TwinLog D) (t : Tables E) → Appends {T = R} codec state (Ok x) old.gates g (leases w) → t ≡ showing old.tables n → StepsOn kinds codec state old (record { tables = t; gates = g; crashed = old.crashed }) Anything (λ e. e ≡ Ticked r n)
+    pub tick_done : {R : Type 0} (x : R) (g : GateLog D) (t : Tables E) → Appends {T = R} codec state (Ok x) old.gates g (leases w) → t ≡ showing old.tables n → StepsOn kinds codec state old (record { tables = t; gates = g; crashed = old.crashed }) Anything (λ e. e ≡ Ticked r n)
     tick_done x g t a shown = done_call kinds codec state old Anything up x (record { tables = t; gates = g; crashed = old.crashed }) (leases w) a refl (λ e. e ≡ Ticked r n)
         (subst (λ q. Steps kinds old.tables Anything (λ e. e ≡ Ticked r n) q) (sym shown) (ticks kinds old.tables r n (leased old.tables.ceiling n) low is refl))
         (λ p h e q shows step.
         let st : PartStep kinds sites parts old.tables.id p (Ticked r n) q = subst (λ (y : Event E). PartStep kinds sites parts old.tables.id p y q) shows step in
         subst (λ y. IsWritten p y q (leases w)) (sym shows) (record { whole = refl; adds = tick_adds p h; log = ap (λ (s : PartState E). s.log) st.2 ∙ ap (λ l. grown p.log l) (tick_adds p h); rises = tick_rises p h }))
 
-    pub tick_stopped : {R : Type 0} (e : AppendError) (g : TwinLog D) → Appends {T = R} codec state (Err e) old.gates g (leases w) → CallsOn kinds codec state old (with_log old g) Anything (AskTick r) (λ m e. e ≡ Ticked r m) (Err (stopped e))
+    pub tick_stopped : {R : Type 0} (e : AppendError) (g : GateLog D) → Appends {T = R} codec state (Err e) old.gates g (leases w) → CallsOn kinds codec state old (with_log old g) Anything (AskTick r) (λ m e. e ≡ Ticked r m) (Err (stopped e))
     tick_stopped {R} e g a = stopped_call kinds codec state old Anything up {R = R} (AskTick r) (λ m e. e ≡ Ticked r m) (leases w)
         (λ p h _. record { what = Ticked r n; shows = (n, refl); may = (is ∙ ap (λ m. max r m) (sym h.clock), low); adds = tick_adds p h; rises = tick_rises p h })
         (λ p k h _. low)
@@ -135,14 +135,14 @@ module _ {S E D : Type 0} (kinds : Kinds S E) (codec : Codec E) (state : D → D
         let early = b.early in
         subst (λ l. Rises (grown p.log l)) (begin_adds p h) (lease_rises p.log tx.time (omega (arith, next, early)) r)
 
-    pub begin_done : {R : Type 0} (x : R) (g : TwinLog D) (t : Tables E) → Appends {T = R} codec state (Ok x) old.gates g (leases w) → t ≡ showing old.tables tx.time → StepsOn kinds codec state old (on_disk t g old.crashed) Anything (λ e. e ≡ Began who wish tx s)
+    pub begin_done : {R : Type 0} (x : R) (g : GateLog D) (t : Tables E) → Appends {T = R} codec state (Ok x) old.gates g (leases w) → t ≡ showing old.tables tx.time → StepsOn kinds codec state old (on_disk t g old.crashed) Anything (λ e. e ≡ Began who wish tx s)
     begin_done x g t a shown = done_call kinds codec state old Anything up x (on_disk t g old.crashed) (leases w) a refl (λ e. e ≡ Began who wish tx s)
         (subst (λ q. Steps kinds old.tables Anything (λ e. e ≡ Began who wish tx s) q) (sym shown) steps)
         (λ p h e q shows step.
         let st : PartStep kinds sites parts old.tables.id p (Began who wish tx s) q = subst (λ (y : Event E). PartStep kinds sites parts old.tables.id p y q) shows step in
         subst (λ y. IsWritten p y q (leases w)) (sym shows) (record { whole = refl; adds = begin_adds p h; log = ap (λ (s : PartState E). s.log) st.2 ∙ ap (λ l. grown p.log l) (begin_adds p h); rises = begin_rises p h }))
 
-    pub begin_stopped : {R : Type 0} (e : AppendError) (g : TwinLog D) → Appends {T = R} codec state (Err e) old.gates g (leases w) → CallsOn kinds codec state old (with_log old g) Anything (AskBegin who wish) (λ (x : TxId × List ℕ) e. e ≡ Began who wish x.0 x.1) (Err (stopped e))
+    pub begin_stopped : {R : Type 0} (e : AppendError) (g : GateLog D) → Appends {T = R} codec state (Err e) old.gates g (leases w) → CallsOn kinds codec state old (with_log old g) Anything (AskBegin who wish) (λ (x : TxId × List ℕ) e. e ≡ Began who wish x.0 x.1) (Err (stopped e))
     begin_stopped {R} e g a = stopped_call kinds codec state old Anything up {R = R} (AskBegin who wish) (λ (x : TxId × List ℕ) e. e ≡ Began who wish x.0 x.1) (leases w)
         (λ p h _. record { what = Began who wish tx s; shows = ((tx, s), refl); may = begun_so p h; adds = begin_adds p h; rises = begin_rises p h })
         (λ p k h _. let b = begun_so p h in (begin_enough sites parts old.tables.id p wish tx s b, b.early))
@@ -162,13 +162,13 @@ module _ {S E D : Type 0} (kinds : Kinds S E) (codec : Codec E) (state : D → D
         let voted : Rises (Prepare tx l n s us ∷ grown p.log (lease_for p.log n)) = lease_rises p.log n top r in
         subst (λ k. Rises (grown p.log k)) (vote_adds p h) (subst (λ k. Rises k) (sym (grown_last p.log (lease_for p.log n) (Prepare tx l n s us))) voted)
 
-    pub vote_done : {R : Type 0} (x : R) (g : TwinLog D) (t : Tables E) → Appends {T = R} codec state (Ok x) old.gates g vote_records → Steps kinds old.tables (NamesNowhere tx) (λ e. e ≡ Prepared tx s (led_by l) us n) t → StepsOn kinds codec state old (on_disk t g old.crashed) (NamesNowhere tx) (λ e. e ≡ Prepared tx s (led_by l) us n)
+    pub vote_done : {R : Type 0} (x : R) (g : GateLog D) (t : Tables E) → Appends {T = R} codec state (Ok x) old.gates g vote_records → Steps kinds old.tables (NamesNowhere tx) (λ e. e ≡ Prepared tx s (led_by l) us n) t → StepsOn kinds codec state old (on_disk t g old.crashed) (NamesNowhere tx) (λ e. e ≡ Prepared tx s (led_by l) us n)
     vote_done x g t a steps = done_call kinds codec state old (NamesNowhere tx) up x (on_disk t g old.crashed) vote_records a refl (λ e. e ≡ Prepared tx s (led_by l) us n) steps
         (λ p h e q shows step.
         let st : PartStep kinds sites parts old.tables.id p (Prepared tx s (led_by l) us n) q = subst (λ (y : Event E). PartStep kinds sites parts old.tables.id p y q) shows step in
         subst (λ y. IsWritten p y q vote_records) (sym shows) (record { whole = refl; adds = vote_adds p h; log = ap (λ (s : PartState E). s.log) st.2 ∙ ap (λ l. grown p.log l) (vote_adds p h); rises = vote_rises p h (let next = st.1.1 in let early = st.1.2 in omega (arith, next, early)) }))
 
-    pub vote_stopped : {R : Type 0} → entry s old.tables.id.site ≤ old.tables.clock → n ≡ old.tables.clock + 1 → old.tables.clock < end_of_time → (e : AppendError) (g : TwinLog D) → Appends {T = R} codec state (Err e) old.gates g vote_records → CallsOn kinds codec state old (with_log old g) (NamesNowhere tx) (AskPrepare tx s (led_by l) us) (λ m e. e ≡ Prepared tx s (led_by l) us m) (Err (stopped e))
+    pub vote_stopped : {R : Type 0} → entry s old.tables.id.site ≤ old.tables.clock → n ≡ old.tables.clock + 1 → old.tables.clock < end_of_time → (e : AppendError) (g : GateLog D) → Appends {T = R} codec state (Err e) old.gates g vote_records → CallsOn kinds codec state old (with_log old g) (NamesNowhere tx) (AskPrepare tx s (led_by l) us) (λ m e. e ≡ Prepared tx s (led_by l) us m) (Err (stopped e))
     vote_stopped {R} reached is early e g a = stopped_call kinds codec state old (NamesNowhere tx) up {R = R} (AskPrepare tx s (led_by l) us) (λ m e. e ≡ Prepared tx s (led_by l) us m) vote_records
         (λ p h _. record { what = Prepared tx s (led_by l) us n; shows = (n, refl); may = (subst (λ k. entry s old.tables.id.site ≤ k) (sym h.clock) reached, is ∙ ap (λ k. k + 1) (sym h.clock), subst (λ k. k < end_of_time) (sym h.clock) early); adds = vote_adds p h; rises = vote_rises p h (omega (arith, is, early)) })
         (λ p k h _. (subst (λ k. entry s old.tables.id.site ≤ k) (sym h.clock) reached, subst (λ k. k < end_of_time) (sym h.clock) early))
@@ -187,13 +187,13 @@ module _ {S E D : Type 0} (kinds : Kinds S E) (codec : Codec E) (state : D → D
     batch_rises log b [] r = r
     batch_rises log b (x ∷ xs) r = r
 
-    pub take_done : {R : Type 0} (x : R) (g : TwinLog D) (t : Tables E) → Appends {T = R} codec state (Ok x) old.gates g brought → Steps kinds old.tables Anything (λ e. e ≡ Took number m) t → StepsOn kinds codec state old (on_disk t g old.crashed) Anything (λ e. e ≡ Took number m)
+    pub take_done : {R : Type 0} (x : R) (g : GateLog D) (t : Tables E) → Appends {T = R} codec state (Ok x) old.gates g brought → Steps kinds old.tables Anything (λ e. e ≡ Took number m) t → StepsOn kinds codec state old (on_disk t g old.crashed) Anything (λ e. e ≡ Took number m)
     take_done x g t a steps = done_call kinds codec state old Anything up x (on_disk t g old.crashed) brought a refl (λ e. e ≡ Took number m) steps
         (λ p h e q shows step.
         let st : PartStep kinds sites parts old.tables.id p (Took number m) q = subst (λ (y : Event E). PartStep kinds sites parts old.tables.id p y q) shows step in
         subst (λ y. IsWritten p y q brought) (sym shows) (record { whole = refl; adds = take_adds p h; log = ap (λ (s : PartState E). s.log) st.2 ∙ ap (λ l. grown p.log l) (take_adds p h); rises = batch_rises p.log (entry old.tables.bounds m.from) (above m.from (entry old.tables.bounds m.from) m.parts) }))
 
-    pub take_stopped : {A R : Type 0} → A → m.lo ≤ entry old.tables.bounds m.from → entry old.tables.bounds m.from < m.hi → (e : AppendError) (g : TwinLog D) → Appends {T = R} codec state (Err e) old.gates g brought → CallsOn kinds codec state old (with_log old g) Anything (AskTake number m) (λ (x : A) e. e ≡ Took number m) (Err (stopped e))
+    pub take_stopped : {A R : Type 0} → A → m.lo ≤ entry old.tables.bounds m.from → entry old.tables.bounds m.from < m.hi → (e : AppendError) (g : GateLog D) → Appends {T = R} codec state (Err e) old.gates g brought → CallsOn kinds codec state old (with_log old g) Anything (AskTake number m) (λ (x : A) e. e ≡ Took number m) (Err (stopped e))
     take_stopped {A} {R} x low high e g a =
         let fits : (p : PartState E) → Stands old.tables p → (m.lo ≤ entry p.bounds m.from) × (entry p.bounds m.from < m.hi) = λ p h. subst (λ b. (m.lo ≤ entry b m.from) × (entry b m.from < m.hi)) (sym h.bounds) (low, high) in
         stopped_call kinds codec state old Anything up {R = R} (AskTake number m) (λ (x : A) e. e ≡ Took number m) brought
@@ -217,20 +217,20 @@ module _ {S E D : Type 0} (kinds : Kinds S E) (codec : Codec E) (state : D → D
       pub rises : (log : List (Record E)) → Rises log → Rises (r ∷ log)
 
     module _ (by : EndsBy) (here : has_entry old.tables.pending tx ≡ true) where
-      pub end_done : {R : Type 0} (x : R) (g : TwinLog D) (t : Tables E) → Appends {T = R} codec state (Ok x) old.gates g (r ∷ []) → Steps kinds old.tables Anything (λ e. e ≡ ended) t → StepsOn kinds codec state old (on_disk t g old.crashed) Anything (λ e. e ≡ ended)
+      pub end_done : {R : Type 0} (x : R) (g : GateLog D) (t : Tables E) → Appends {T = R} codec state (Ok x) old.gates g (r ∷ []) → Steps kinds old.tables Anything (λ e. e ≡ ended) t → StepsOn kinds codec state old (on_disk t g old.crashed) Anything (λ e. e ≡ ended)
       end_done x g t a steps = done_call kinds codec state old Anything up x (on_disk t g old.crashed) (r ∷ []) a refl (λ e. e ≡ ended) steps
           (λ p h e q shows step.
           let adds = by.adds p (waits tx true here p h) in
           subst (λ y. IsWritten p y q (r ∷ [])) (sym shows) (record { whole = by.whole; adds = adds; log = by.log p q (subst (λ (y : Event E). PartStep kinds sites parts old.tables.id p y q) shows step) ∙ ap (λ l. grown p.log l) adds; rises = by.rises p.log }))
 
-      pub end_stopped : {A R : Type 0} → A → (e : AppendError) (g : TwinLog D) → Appends {T = R} codec state (Err e) old.gates g (r ∷ []) → CallsOn kinds codec state old (with_log old g) Anything asked (λ (x : A) e. e ≡ ended) (Err (stopped e))
+      pub end_stopped : {A R : Type 0} → A → (e : AppendError) (g : GateLog D) → Appends {T = R} codec state (Err e) old.gates g (r ∷ []) → CallsOn kinds codec state old (with_log old g) Anything asked (λ (x : A) e. e ≡ ended) (Err (stopped e))
       end_stopped {A} {R} x e g a = stopped_call kinds codec state old Anything up {R = R} asked (λ (x : A) e. e ≡ ended) (r ∷ [])
           (λ p h _. let w = waits tx true here p h in record { what = ended; shows = (x, refl); may = by.may p w; adds = by.adds p w; rises = by.rises p.log })
           (λ p n h _. by.room p n (waits tx true here p h))
           e g a
 
       -- what is pending isn't gone
-      pub end_never : {R : Type 0} (x : R) (g : TwinLog D) (t : Tables E) (why : Refusal) → Appends {T = R} codec state (Ok x) old.gates g (r ∷ []) → Steps kinds old.tables Anything (λ e. e ≡ Refused asked (cause why)) t
+      pub end_never : {R : Type 0} (x : R) (g : GateLog D) (t : Tables E) (why : Refusal) → Appends {T = R} codec state (Ok x) old.gates g (r ∷ []) → Steps kinds old.tables Anything (λ e. e ≡ Refused asked (cause why)) t
           → ((p : PartState E) → pending p.log tx ≡ true → IsRefused kinds sites parts old.tables.id p asked (cause why) → ⊥) → StepsOn kinds codec state old (on_disk t g old.crashed) Anything (λ e. e ≡ Refused asked (cause why))
       end_never x g t why a s refutes = record {
         same = s.same;

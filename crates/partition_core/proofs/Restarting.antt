@@ -2,11 +2,11 @@
 use Rattle.std.proofs.Common.{◌≡◌, ◌≢◌, ⊎_elim, ℕ, true, false, ◌||◌, List, [], ◌∷◌, map, Some, Result, Err, refl, sym, ap, ◌∙◌, subst}
 use Rattle.std.specs.Prelude.{IsTrue}
 use Rattle.std.proofs.lemmas.Bool.{cases_Bool}
-use Rattle.disk_core.specs.States.{DiskState, GoesOn, Fails, bytes_of}
+use Rattle.disk_core.specs.States.{DiskState, GoesOn, Fails}
 use Rattle.disk_core.specs.Moments.{AtEachMoment}
 use Rattle.gate_log.specs.Rest.{Lowers}
-use Rattle.twin_log.specs.declared.log.TwinLog.{TwinLog}
-use Rattle.twin_log.specs.Logs.{disk_of, is_closed}
+use Rattle.gate_log.specs.declared.log.GateLog.{GateLog}
+use Rattle.gate_log.specs.Logs.{disk_of, is_closed}
 use Rattle.partition_log.specs.Codec.{Codec}
 use Rattle.partition_log.specs.Logs.{HasRecords, HoldsFront, LeavesFront}
 use Rattle.site_vector.specs.declared.ids.PartId.{PartId}
@@ -150,7 +150,7 @@ module _ {S E D : Type 0} (kinds : Kinds S E) (codec : Codec E) (state : D → D
 
   -- ---- its answers
 
-  module _ (g : TwinLog D) (goes_on : GoesOn (disk_in state old) (state (disk_of g))) (left : Lowers 3 (disk_in state old).left (state (disk_of g)).left)
+  module _ (g : GateLog D) (goes_on : GoesOn (disk_in state old) (state (disk_of g))) (left : Lowers 3 (disk_in state old).left (state (disk_of g)).left)
       (moments : (l torn : List (Record E)) → LeavesFront codec l torn (disk_in state old) → AtEachMoment (disk_in state old).story (state (disk_of g)).story (HoldsFront codec l torn)) where
     pub stays : (t : Tables E) → IsSame old.tables t → StaysDown kinds codec state old (on_disk t g true)
     stays t same = record {
@@ -161,7 +161,7 @@ module _ {S E D : Type 0} (kinds : Kinds S E) (codec : Codec E) (state : D → D
 
     -- what a restart may find is a log whose first record that doesn't fit lies there
     abbrev pub FoundUnfit : ℕ → Type 0
-    FoundUnfit at = (l torn : List (Record E)) → LeavesFront codec l torn (disk_in state old) → (found : List (Record E)) × MayFind l torn found × IsUnfitAt codec old.tables.sites old.tables.parts old.tables.id (bytes_of (disk_in state old)) found at
+    FoundUnfit at = (l torn : List (Record E)) → LeavesFront codec l torn (disk_in state old) → (found : List (Record E)) × MayFind l torn found × IsUnfitAt codec old.tables.sites old.tables.parts old.tables.id found at
 
     pub unread : {A : Type 0} (t : Tables E) → IsSame old.tables t → (e : RestartError) → (failing {A = A} e ≡ Err restart.Disk → Fails (disk_in state old) (state (disk_of g))) → ((at : ℕ) → failing {A = A} e ≡ Err (restart.Damaged at) → FoundUnfit at)
         → RestartsOn kinds codec state old (on_disk t g true) (Err e)

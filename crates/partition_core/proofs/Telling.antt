@@ -1,15 +1,9 @@
 -- The records of a log that are read one by one, and what they tell.
-use Rattle.std.proofs.Common.{◌≡◌, ℕ, suc, ◌+◌, Bool, true, false, List, [], ◌∷◌, ◌++◌, length, None, Some, slice_get, IsTrue, refl, sym, ap, ◌∙◌, subst, arith}
+use Rattle.std.proofs.Common.{◌≡◌, ℕ, suc, ◌+◌, Bool, true, false, List, [], ◌∷◌, ◌++◌, length, None, Some, slice_get, refl, sym, ap, ◌∙◌, subst, arith}
 use Rattle.std.specs.Prelude.{map}
 use Rattle.std.proofs.lemmas.List.{append-nil, length-append}
 use Rattle.site_vector.specs.declared.ids.PartId.{PartId}
-use Rattle.disk_core.specs.States.{DiskState, bytes_of}
-use Rattle.gate_log.specs.Payloads.{AreWithin}
-use Rattle.twin_log.specs.Twin.{start_of}
-use Rattle.twin_log.specs.Payloads.{placed_in}
-use Rattle.twin_log.specs.Logs.{spot_of, read_at_opening}
-use Rattle.twin_log.specs.declared.log.TwinLog.{TwinLog}
-use Rattle.twin_log.proofs.Unique.{one_layout}
+use Rattle.gate_log.specs.Payloads.{placed, AreWithin}
 use Rattle.crdt_core.specs.declared.record.Record.{Record}
 use Rattle.crdt_core.specs.Fitting.{fits_record, unfit_next, unfit_under}
 use Rattle.crdt_core.specs.Log.{ceiling, grown}
@@ -18,11 +12,10 @@ use Rattle.log_recovery.specs.Told.{HasRead, ReadsNext}
 use Rattle.log_recovery.proofs.Seeing.{unfit_grown}
 use Rattle.partition_log.specs.Codec.{Codec}
 use Rattle.partition_log.specs.Damage.{AreRecords}
-use Rattle.partition_log.specs.Logs.{payloads_of, IsOpened}
+use Rattle.partition_log.specs.Logs.{payloads_of}
 use Rattle.partition_log.proofs.Listing.{EachRecord, each_of_log}
-use Rattle.partition_log.proofs.Opened.{opened_records, opened_places}
-use Rattle.partition_log.proofs.Reading.{Item, SoFar, started, went_on}
-use Rattle.partition_core.specs.Unfit.{IsUnfitIn, IsUnfitAt}
+use Rattle.partition_log.proofs.Reading.{Item, SoFar, started, went_on, same_payloads}
+use Rattle.partition_core.specs.Unfit.{IsUnfitAt}
 
 at_front : {X : Type 0} (front : List X) (x : X) (rest : List X) → slice_get (front ++ x ∷ rest) (length front) ≡ Some x
 at_front [] x rest = refl
@@ -66,9 +59,9 @@ module _ {E : Type 0} (codec : Codec E) (sites parts : ℕ) (id : PartId) (top :
     underway_more new fits f reads = record { so = went_on codec all left x rest next e spelled is h.so; has = reads.read f }
 
     -- a record that doesn't fit is the first, where all are records
-    pub underway_stops : (new : Recovery E) (fits : Bool) → fits ≡ false → ReadsNext sites parts id top h.so.log next new fits → ((log : List (Record E)) → AreRecords codec all log → top ≡ ceiling log) → (log : List (Record E)) → AreRecords codec all log
-        → (log : List (Record E)) × AreRecords codec all log × IsUnfitIn sites parts id all log x.0
-    underway_stops new fits f reads last log read =
+    pub underway_stops : (new : Recovery E) (fits : Bool) → fits ≡ false → ReadsNext sites parts id top h.so.log next new fits → ((log : List (Record E)) → AreRecords codec all log → top ≡ ceiling log) → (log : List (Record E)) → AreRecords codec all log → (payloads : List (List ℕ)) → all ≡ placed 8 payloads
+        → (log : List (Record E)) × AreRecords codec all log × IsUnfitAt codec sites parts id log x.0
+    underway_stops new fits f reads last log read payloads at =
         let so = went_on codec all left x rest next e spelled is h.so in
         let split : all ≡ h.so.front ++ x ∷ rest = h.so.is ∙ ap (λ l. h.so.front ++ l) e in
         let each = each_behind codec h.so.front x rest (subst (λ l. EachRecord codec (map (λ item. item.1) l)) split (subst (EachRecord codec) (sym read.payloads) (each_of_log codec log read.spelled))) in
@@ -76,23 +69,14 @@ module _ {E : Type 0} (codec : Codec E) (sites parts : ℕ) (id : PartId) (top :
         let whole = grown (next ∷ h.so.log) more.0 in
         let n = length h.so.log in
         let here : unfit_under sites parts id top (next ∷ h.so.log) ≡ Some n = ap (λ o. unfit_next o (fits_record sites parts id top h.so.log next) n) h.has.fits ∙ ap (λ b. unfit_next None b n) (sym reads.judged ∙ f) in
-        let count : length h.so.front ≡ n = sym (length_map (λ (item : Item). item.1) h.so.front) ∙ ap length h.so.read.payloads ∙ length_payloads codec h.so.log in (
+        let count : length h.so.front ≡ n = sym (length_map (λ (item : Item). item.1) h.so.front) ∙ ap length h.so.read.payloads ∙ length_payloads codec h.so.log in
+        let items : placed 8 (payloads_of codec whole) ≡ h.so.front ++ x ∷ rest = ap (placed 8) (sym (same_payloads codec all payloads whole at more.1)) ∙ sym at ∙ split in (
           whole,
           more.1,
           record {
             number = n;
             first = ap (λ n. unfit_under sites parts id n whole) (sym (last whole more.1)) ∙ unfit_grown sites parts id top n (next ∷ h.so.log) more.0 here;
             payload = x.1;
-            there = ap (λ l. slice_get l n) split ∙ ap (λ k. slice_get (h.so.front ++ x ∷ rest) k) (sym count) ∙ at_front h.so.front x rest;
+            there = ap (λ l. slice_get l n) items ∙ ap (λ k. slice_get (h.so.front ++ x ∷ rest) k) (sym count) ∙ at_front h.so.front x rest;
           },
         )
-
--- what was read at opening is what the disk held, so the place is one of its bytes
-pub unfit_there : {E D : Type 0} (codec : Codec E) (state : D → DiskState) (disk : DiskState) (gates : TwinLog D) (opened : IsOpened state disk gates) → IsTrue disk.tells → (sites parts : ℕ) (id : PartId) (log : List (Record E)) (at : ℕ)
-    → AreRecords codec (read_at_opening gates) log → IsUnfitIn sites parts id (read_at_opening gates) log at → IsUnfitAt codec sites parts id (bytes_of disk) log at
-unfit_there codec state disk gates opened told sites parts id log at read unfit =
-    let holds = (opened_records codec state disk gates opened log read told).0 in
-    let stands = (opened.holds told).0.stands in
-    let same = one_layout (bytes_of disk) (spot_of gates).format holds.format (opened.image ++ opened.tail) (payloads_of codec log) stands.log holds.is_log in
-    let places : read_at_opening gates ≡ placed_in (start_of (bytes_of disk)) holds.is_log.image holds.is_log.tail = opened_places codec state disk gates opened told ∙ (λ i. placed_in (start_of (bytes_of disk)) (same.0 i) (same.1 i)) in
-    record { holds = holds; unfit = subst (λ items. IsUnfitIn sites parts id items log at) places unfit }

@@ -5,11 +5,11 @@ use Rattle.std.proofs.lemmas.Bool.{true≢false, ne_eqb}
 use Rattle.disk_core.specs.States.{DiskState, fewer, Spared}
 use Rattle.disk_core.specs.Moments.{EachImage}
 use Rattle.disk_core.proofs.Moments.{at_first}
-use Rattle.twin_log.specs.Logs.{disk_of, spot_of, is_closed, IsReady}
-use Rattle.twin_log.specs.declared.log.TwinLog.{TwinLog}
+use Rattle.gate_log.specs.Logs.{disk_of, is_closed, IsReady}
+use Rattle.gate_log.specs.declared.log.GateLog.{GateLog}
 use Rattle.gate_log.specs.declared.error.AppendError.{AppendError}
 use Rattle.gate_log.specs.declared.error.AppendError.TheVariants.{Failed, Full, Closed}
-use Rattle.twin_log.proofs.Holds.{log_left}
+use Rattle.gate_log.proofs.Steps.{is_log}
 use Rattle.partition_log.specs.Codec.{Codec}
 use Rattle.partition_log.specs.Logs.{payloads_of, HoldsLog, HoldsFront, HasRecords}
 use Rattle.partition_log.specs.Appends.{Appends}
@@ -35,9 +35,9 @@ same_left : (left : Option ℕ) → left ≡ fewer 0 left
 same_left None = refl
 same_left (Some n) = let e : n ≡ n - 0 = omega arith in ap Some e
 
-module _ {E D T : Type 0} (codec : Codec E) (state : D → DiskState) (log : TwinLog D) (ready : IsReady state log) (still_open : is_closed log ≡ false) (x : T) where
+module _ {E D T : Type 0} (codec : Codec E) (state : D → DiskState) (log : GateLog D) (ready : IsReady state log) (still_open : is_closed log ≡ false) (x : T) where
   holds_itself : (l : List (Record E)) → HasRecords codec state log l → EachImage (λ image. HoldsLog codec image l) (state (disk_of log)).story.now
-  holds_itself l has image left = record { format = (spot_of log).format; is_log = log_left (state (disk_of log)) (spot_of log) (payloads_of codec l) image has.is_open.at_rest left; spelled = has.spelled }
+  holds_itself l has image left = record { is_log = is_log (state (disk_of log)).story.now (payloads_of codec l) image has.is_open.at_rest.settled has.is_open.at_rest.log left; spelled = has.spelled }
 
   no_error : (e : AppendError) → (Ok x) ≡ Err e → ⊥
   no_error e h = cc

@@ -2,8 +2,8 @@
 use Rattle.std.specs.Prelude.{◌≡◌, ◌||◌, Bool, true, false, IsTrue}
 use Rattle.disk_core.specs.States.{DiskState}
 use Rattle.disk_core.specs.Moments.{EachImage}
-use Rattle.twin_log.specs.declared.log.TwinLog.{TwinLog}
-use Rattle.twin_log.specs.Logs.{disk_of, is_closed}
+use Rattle.gate_log.specs.declared.log.GateLog.{GateLog}
+use Rattle.gate_log.specs.Logs.{disk_of, is_closed}
 use Rattle.partition_log.specs.Codec.{Codec}
 use Rattle.partition_log.specs.Logs.{HasRecords, HoldsFront}
 use Rattle.crdt_core.specs.Log.{grown}
@@ -16,7 +16,7 @@ pub record Durable (E D : Type 0) : Type 0 where
   -- what it keeps in memory
   pub tables : Tables E
   -- the log on its disk, as a log of byte strings
-  pub gates : TwinLog D
+  pub gates : GateLog D
   -- it was told to crash, and not restarted since
   pub crashed : Bool
 

@@ -3,7 +3,7 @@
 use Rattle.std.specs.Prelude.{◌≡◌, ℕ, ◌+◌, ◌*◌, ◌<◌, ◌≤◌, Bool, true, false, if◌then◌else◌, List, length, Result, Ok, Err}
 use Rattle.disk_core.specs.States.{DiskState, GoesOn, Fails, fewer, Spared}
 use Rattle.disk_core.specs.Moments.{AtEachMoment}
-use Rattle.twin_log.specs.Logs.{gate_of}
+use Rattle.gate_log.specs.Logs.{gate_of}
 use Rattle.gate_log.specs.Rest.{Lowers}
 use Rattle.partition_log.specs.Codec.{Codec}
 use Rattle.partition_log.specs.Logs.{HoldsFront, size}

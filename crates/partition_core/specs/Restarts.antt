@@ -1,6 +1,6 @@
 -- What a restart of a partition on its disk owes.
 use Rattle.std.specs.Prelude.{◌≡◌, ◌≢◌, ℕ, true, false, List, map, None, Some, Result, Ok, Err}
-use Rattle.disk_core.specs.States.{DiskState, GoesOn, Fails, bytes_of}
+use Rattle.disk_core.specs.States.{DiskState, GoesOn, Fails}
 use Rattle.gate_log.specs.Rest.{Lowers}
 use Rattle.gate_log.specs.declared.error.OpenError.{OpenError}
 use Rattle.gate_log.specs.declared.error.OpenError.TheVariants as open_error
@@ -68,7 +68,7 @@ module _ {S E D : Type 0} (kinds : Kinds S E) (codec : Codec E) (state : D → D
   pub record FindsUnfit (p : PartState E) (at : ℕ) : Type 0 where
     pub log : List (Record E)
     pub found : Finds p log
-    pub unfit : IsUnfitAt codec old.tables.sites old.tables.parts old.tables.id (bytes_of (disk_in state old)) log at
+    pub unfit : IsUnfitAt codec old.tables.sites old.tables.parts old.tables.id log at
 
   abbrev pub RestartsOn : Result Restarted RestartError → Type 0
   RestartsOn (Ok r) = ComesUp r

@@ -1,7 +1,7 @@
 ghost use Rattle.std.specs.Prelude.{◌≡◌, ◌≤◌, ◌||◌, true};
 ghost use Rattle.site_vector.specs.Vector.{entry};
 ghost use Rattle.crdt_core.specs.KindsOf.{kinds_of};
-ghost use Rattle.twin_log.specs.Logs.{is_closed, disk_of};
+ghost use Rattle.gate_log.specs.Logs.{is_closed, disk_of};
 ghost use Rattle.gate_log.specs.declared.error.AppendError.{AppendError};
 ghost use Rattle.gate_log.specs.declared.error.AppendError.TheVariants as append;
 ghost use Rattle.prepared_table.specs.Entries.{first_on};
@@ -99,7 +99,7 @@ pub struct DurablePartition<C: Crdt, D: Disk + Drop> {
 }
 
 impl<C: Crdt, D: Disk + Drop> Model for DurablePartition<C, D> {
-    ghost use Rattle.twin_log.specs.Logs.{IsReady};
+    ghost use Rattle.gate_log.specs.Logs.{IsReady};
     ghost use Rattle.partition_log.specs.Gates.{gates_of};
     ghost use Rattle.partition_core.specs.Durable.{Durable};
 

@@ -8,7 +8,7 @@ ghost use Rattle.crdt_core.specs.declared.record.Upd.{Upd};
 ghost use Rattle.crdt_core.specs.KindsOf.{kinds_of};
 ghost use Rattle.crdt_core.specs.Log.{end_of_time};
 ghost use Rattle.crdt_core.specs.Parts.{above, lists};
-ghost use Rattle.twin_log.specs.Logs.{IsReady, is_closed};
+ghost use Rattle.gate_log.specs.Logs.{IsReady, is_closed};
 ghost use Rattle.gate_log.specs.declared.error.AppendError.TheVariants.{NoMemory as OutOfMemory};
 ghost use Rattle.log_records.specs.Messages.{can_put_message};
 ghost use Rattle.log_records.specs.Records.{can_put_record};

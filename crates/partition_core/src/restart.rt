@@ -1,10 +1,9 @@
 // How a partition on its disk comes up, and comes up again.
 ghost use Rattle.std.specs.Prelude.{◌≡◌, ◌≢◌, ◌≤◌, ◌⊎◌, ℕ, List, [], false, None, Err, IsTrue, IfOk, IfErr, MatchResult};
 ghost use Rattle.disk_core.specs.States.{GoesOn, Fails, bytes_of};
-ghost use Rattle.gate_log.specs.Rest.{Lowers};
-ghost use Rattle.twin_log.specs.Logs.{disk_of, is_closed, read_at_opening, IsReady};
-ghost use Rattle.twin_log.specs.Rests.{AtRest};
-ghost use Rattle.twin_log.specs.declared.spot.Spot.{Spot};
+ghost use Rattle.gate_log.specs.Logs.{disk_of, is_closed, read_at_opening, IsReady};
+ghost use Rattle.gate_log.specs.Payloads.{placed};
+ghost use Rattle.gate_log.specs.Rest.{AtRest, Lowers};
 ghost use Rattle.partition_log.specs.Codec.{codec_of};
 ghost use Rattle.partition_log.specs.Gates.{gates_of};
 ghost use Rattle.partition_log.specs.Damage.{AreRecords, IsDamaged, IsRefusedAt};
@@ -19,7 +18,7 @@ ghost use Rattle.partition_core.specs.Durable.{StandsOn, is_down};
 ghost use Rattle.partition_core.specs.Recovered.{resumed};
 ghost use Rattle.partition_core.specs.Stands.{Stands};
 ghost use Rattle.partition_core.specs.Restarts.{RestartsOn, ComesUpOver, unopened, IsListed};
-ghost use Rattle.partition_core.specs.Unfit.{IsUnfitIn, IsUnfitAt};
+ghost use Rattle.partition_core.specs.Unfit.{IsUnfitAt};
 ghost use Rattle.partition_core.specs.declared.restart.RestartError.TheVariants.{Disk as DiskFailed, Damaged as DamagedAt, NoMemory};
 
 use crate::told::{read_again, told_by};
@@ -100,11 +99,12 @@ fn tables_of<C: Crdt, D: Disk + Drop>(
     requires least_part { 1 ≤ id.part }
     requires most_part { id.part ≤ parts }
     requires most_parts { parts ≤ 16 }
+    requires placed { (payloads : List (List ℕ)) × (read_at_opening (gates_of log.now) ≡ placed 8 payloads) }
     ensures place { IfOk result (λ t. (t.id ≡ id) × (t.sites ≡ sites) × (t.parts ≡ parts)) }
     ensures stands { IfOk result (λ t. (l : List (Record C.Effect)) × AreRecords (codec_of C.spells) (read_at_opening (gates_of log.now)) l
         × (unfit sites parts id l ≡ None) × ((b : List ℕ) × AreKnown sites id.site l b × (Rises l → Stands t (resumed sites parts b l)))) }
     ensures damaged { (at : ℕ) → result ≡ Err (DamagedAt at) → IsRefusedAt (codec_of C.spells) (read_at_opening (gates_of log.now)) at
-        ⊎ ((l : List (Record C.Effect)) × AreRecords (codec_of C.spells) (read_at_opening (gates_of log.now)) l × IsUnfitIn sites parts id (read_at_opening (gates_of log.now)) l at) }
+        ⊎ ((l : List (Record C.Effect)) × AreRecords (codec_of C.spells) (read_at_opening (gates_of log.now)) l × IsUnfitAt (codec_of C.spells) sites parts id l at) }
     ensures reads { result ≢ Err DiskFailed }
 {
     let told = told_by(alloc, log, id, sites, parts)?;
@@ -130,6 +130,7 @@ fn wake<C: Crdt, D: Disk + Drop>(
     requires least_part { 1 ≤ id.part }
     requires most_part { id.part ≤ parts }
     requires most_parts { parts ≤ 16 }
+    requires placed { (payloads : List (List ℕ)) × (read_at_opening (gates_of log) ≡ placed 8 payloads) }
     requires ready { IsReady D.state (gates_of log) }
     requires open { is_closed (gates_of log) ≡ false }
     ensures place { IfOk result (λ p. (p.tables.id ≡ id) × (p.tables.sites ≡ sites) × (p.tables.parts ≡ parts)) }
@@ -138,7 +139,7 @@ fn wake<C: Crdt, D: Disk + Drop>(
     ensures stands { IfOk result (λ p. (l : List (Record C.Effect)) × AreRecords (codec_of C.spells) (read_at_opening (gates_of log)) l
         × (unfit sites parts id l ≡ None) × ((b : List ℕ) × AreKnown sites id.site l b × (HasRecords (codec_of C.spells) D.state (gates_of log) l → Rises l → StandsOn (codec_of C.spells) D.state p (resumed sites parts b l)))) }
     ensures damaged { IfErr result (λ e. (at : ℕ) → e.1 ≡ DamagedAt at → IsRefusedAt (codec_of C.spells) (read_at_opening (gates_of log)) at
-        ⊎ ((l : List (Record C.Effect)) × AreRecords (codec_of C.spells) (read_at_opening (gates_of log)) l × IsUnfitIn sites parts id (read_at_opening (gates_of log)) l at)) }
+        ⊎ ((l : List (Record C.Effect)) × AreRecords (codec_of C.spells) (read_at_opening (gates_of log)) l × IsUnfitAt (codec_of C.spells) sites parts id l at)) }
     ensures disk { MatchResult result (λ p. disk_of p.gates ≡ disk_of (gates_of log)) (λ e. (e.0 ≡ disk_of (gates_of log)) × (e.1 ≢ DiskFailed)) }
 {
     let mut log = log;
@@ -195,9 +196,9 @@ impl<C: Crdt, D: Disk + Drop> DurablePartition<C, D> {
         ensures stands { IfOk result (λ p. IsTrue (D.state disk).tells → (log : List (Record C.Effect)) → HoldsLog (codec_of C.spells) (bytes_of (D.state disk)) log → Rises log
             → (b : List ℕ) × AreKnown sites id.site log b × StandsOn (codec_of C.spells) D.state p (resumed sites parts b log)) }
         ensures read { IfOk result (λ p. IsTrue (D.state disk).tells → ComesUpOver (codec_of C.spells) D.state sites parts id (bytes_of (D.state disk)) p) }
-        ensures new { IfOk result (λ p. (spot : Spot) → AtRest (D.state disk) spot [] → StandsOn (codec_of C.spells) D.state p (new_part sites parts)) }
+        ensures new { IfOk result (λ p. (end : ℕ) → AtRest (D.state disk) end [] → StandsOn (codec_of C.spells) D.state p (new_part sites parts)) }
         ensures damaged { IfErr result (λ e. (at : ℕ) → e.1 ≡ DamagedAt at → IsTrue (D.state disk).tells → IsDamaged (codec_of C.spells) (bytes_of (D.state disk)) at
-            ⊎ ((log : List (Record C.Effect)) × IsUnfitAt (codec_of C.spells) sites parts id (bytes_of (D.state disk)) log at)) }
+            ⊎ ((log : List (Record C.Effect)) × HoldsLog (codec_of C.spells) (bytes_of (D.state disk)) log × IsUnfitAt (codec_of C.spells) sites parts id log at)) }
         ensures goes_on { MatchResult result (λ p. GoesOn (D.state disk) (D.state (disk_of p.gates))) (λ e. GoesOn (D.state disk) (D.state e.0)) }
         ensures left { MatchResult result (λ p. Lowers 3 (D.state disk).left (D.state (disk_of p.gates)).left) (λ e. Lowers 3 (D.state disk).left (D.state e.0).left) }
         ensures failed { IfErr result (λ e. e.1 ≡ DiskFailed → Fails (D.state disk) (D.state e.0)) }

@@ -1,8 +1,9 @@
 // What a log that is read again tells a partition.
 ghost use Rattle.std.specs.Prelude.{◌≡◌, ◌≢◌, ◌≤◌, ◌⊎◌, ℕ, List, false, Some, Err, IfOk, OnOk};
 ghost use Rattle.disk_core.specs.Moments.{AtEachMoment};
-ghost use Rattle.disk_core.specs.States.{GoesOn, Fails, bytes_of};
-ghost use Rattle.twin_log.specs.Logs.{disk_of, is_closed, read_at_opening, IsReady};
+ghost use Rattle.disk_core.specs.States.{GoesOn, Fails};
+ghost use Rattle.gate_log.specs.Logs.{disk_of, is_closed, read_at_opening, IsReady};
+ghost use Rattle.gate_log.specs.Payloads.{placed};
 ghost use Rattle.gate_log.specs.Rest.{Lowers};
 ghost use Rattle.crdt_core.specs.declared.record.Record.{Record};
 ghost use Rattle.crdt_core.specs.Log.{MayFind};
@@ -11,7 +12,7 @@ ghost use Rattle.partition_log.specs.Codec.{codec_of};
 ghost use Rattle.partition_log.specs.Damage.{AreRecords, IsRefusedAt};
 ghost use Rattle.partition_log.specs.Gates.{gates_of};
 ghost use Rattle.partition_log.specs.Logs.{HasRecords, HoldsFront, LeavesFront};
-ghost use Rattle.partition_core.specs.Unfit.{IsUnfitIn, IsUnfitAt};
+ghost use Rattle.partition_core.specs.Unfit.{IsUnfitAt};
 ghost use Rattle.partition_core.specs.declared.restart.RestartError.TheVariants.{Disk as DiskFailed, Damaged as DamagedAt};
 
 use crate::RestartError;
@@ -57,9 +58,10 @@ pub(crate) fn told_by<C: Crdt, D: Disk + Drop>(
     requires first { 1 ≤ id.site }
     requires last { id.site ≤ sites }
     requires some { 1 ≤ parts }
+    requires placed { (payloads : List (List ℕ)) × (read_at_opening (gates_of log.now) ≡ placed 8 payloads) }
     ensures told { IfOk result (λ told. (l : List (Record C.Effect)) × AreRecords (codec_of C.spells) (read_at_opening (gates_of log.now)) l × IsToldBy sites parts id l told) }
     ensures damaged { (at : ℕ) → result ≡ Err (DamagedAt at) → IsRefusedAt (codec_of C.spells) (read_at_opening (gates_of log.now)) at
-        ⊎ ((l : List (Record C.Effect)) × AreRecords (codec_of C.spells) (read_at_opening (gates_of log.now)) l × IsUnfitIn sites parts id (read_at_opening (gates_of log.now)) l at) }
+        ⊎ ((l : List (Record C.Effect)) × AreRecords (codec_of C.spells) (read_at_opening (gates_of log.now)) l × IsUnfitAt (codec_of C.spells) sites parts id l at) }
     ensures reads { result ≢ Err DiskFailed }
 {
     let top = log.last_ceiling();
@@ -94,8 +96,7 @@ pub(crate) fn read_again<C: Crdt, D: Disk + Drop>(
         × ((l torn : List (Record C.Effect)) → LeavesFront (codec_of C.spells) l torn (D.state (disk_of (gates_of log.old)))
         → MayFind l torn found × HasRecords (codec_of C.spells) D.state (gates_of log.new) found)) }
     ensures damaged { (at : ℕ) → result ≡ Err (DamagedAt at) → (l torn : List (Record C.Effect)) → LeavesFront (codec_of C.spells) l torn (D.state (disk_of (gates_of log.old)))
-        → (found : List (Record C.Effect)) × MayFind l torn found
-        × IsUnfitAt (codec_of C.spells) sites parts id (bytes_of (D.state (disk_of (gates_of log.old)))) found at }
+        → (found : List (Record C.Effect)) × MayFind l torn found × IsUnfitAt (codec_of C.spells) sites parts id found at }
     ensures moments { (l torn : List (Record C.Effect)) → LeavesFront (codec_of C.spells) l torn (D.state (disk_of (gates_of log.old)))
         → AtEachMoment (D.state (disk_of (gates_of log.old))).story (D.state (disk_of (gates_of log.new))).story (HoldsFront (codec_of C.spells) l torn) }
     ensures failed { result ≡ Err DiskFailed → Fails (D.state (disk_of (gates_of log.old))) (D.state (disk_of (gates_of log.new))) }

@@ -3,17 +3,16 @@ use Rattle.std.proofs.Common.{◌≡◌, ℕ, ◌+◌, true, List, [], ◌∷◌
 use Rattle.std.specs.Prelude.{map}
 use Rattle.std.proofs.lemmas.List.{append_cancel_right}
 use Rattle.field_codec.specs.FormLaws.{both_true}
-use Rattle.twin_log.specs.Twin.{start_of}
-use Rattle.twin_log.specs.Payloads.{placed_in}
-use Rattle.twin_log.proofs.Unique.{one_list, one_layout, one_place, not_both}
+use Rattle.gate_log.specs.Payloads.{placed}
+use Rattle.gate_log.proofs.Unique.{one_list, one_place, not_both}
 use Rattle.crdt_core.specs.declared.record.Record.{Record}
 use Rattle.log_records.specs.declared.error.RecordError.{RecordError}
 use Rattle.log_records.specs.declared.error.RecordError.TheVariants as why
 use Rattle.log_records.specs.Whole.{whole_at}
 use Rattle.partition_log.specs.Codec.{Codec}
 use Rattle.partition_log.specs.Logs.{payloads_of, are_spelled, HoldsLog}
-use Rattle.partition_log.specs.Damage.{IsRecord, AreRecords, IsRefusedAt, HoldsRefused, IsDamaged}
-use Rattle.partition_log.proofs.Reading.{Item, unplaced_in}
+use Rattle.partition_log.specs.Damage.{IsRecord, AreRecords, IsRefusedAt, IsDamaged}
+use Rattle.partition_log.proofs.Reading.{Item, unplaced}
 use Rattle.partition_log.proofs.Listing.{EachRecord, each_of_log}
 
 abbrev is_read : {V : Type 0} → V → Result V RecordError
@@ -104,23 +103,21 @@ module _ {E : Type 0} (codec : Codec E) (reads : (bytes : List ℕ) (r : Record 
   never_refused items log at read r = among r.front r.back (r.place, r.payload) r.within (subst (λ l. EachRecord codec (map (λ item. item.1) l)) r.is (each_read items log read)) r.damaged
 
   pub one_log_of : (bytes : List ℕ) (log other : List (Record E)) → HoldsLog codec bytes log → HoldsLog codec bytes other → log ≡ other
-  one_log_of bytes log other p q = same_log log other p.spelled q.spelled (one_list bytes p.format q.format (payloads_of codec log) (payloads_of codec other) p.is_log q.is_log).1
+  one_log_of bytes log other p q = same_log log other p.spelled q.spelled (one_list bytes (payloads_of codec log) (payloads_of codec other) p.is_log q.is_log)
 
   pub never_both_of : (bytes : List ℕ) (log : List (Record E)) (at : ℕ) → HoldsLog codec bytes log → IsDamaged codec bytes at → ⊥
   never_both_of bytes log at holds damaged = ⊎_elim
-      (λ gate. not_both bytes holds.format (payloads_of codec log) at holds.is_log gate)
-      (λ (found : HoldsRefused codec bytes at).
-      let r = found.refused in
-      let one = (one_list bytes found.format holds.format found.payloads (payloads_of codec log) found.is_log holds.is_log).1 in
-      let same : map (λ item. item.1) (placed_in (start_of bytes) found.is_log.image found.is_log.tail) ≡ payloads_of codec log = unplaced_in (start_of bytes) found.is_log.image found.is_log.tail ∙ sym found.is_log.listed ∙ one in
+      (λ gate. not_both bytes (payloads_of codec log) at holds.is_log gate)
+      (λ refused.
+      let r = refused.2 in
+      let same : map (λ item. item.1) (placed 8 refused.0) ≡ payloads_of codec log = unplaced 8 refused.0 ∙ one_list bytes refused.0 (payloads_of codec log) refused.1 holds.is_log in
       let each = subst (EachRecord codec) (sym same ∙ ap (map (λ item. item.1)) r.is) (each_of_log codec log holds.spelled) in
       among r.front r.back (r.place, r.payload) r.within each r.damaged)
       damaged
 
   pub one_place_of : (bytes : List ℕ) (at other : ℕ) → IsDamaged codec bytes at → IsDamaged codec bytes other → at ≡ other
   one_place_of bytes at other p q = ⊎_elim
-      (λ a. ⊎_elim (λ b. one_place bytes at other a b) (λ (b : HoldsRefused codec bytes other). absurd (not_both bytes b.format b.payloads at b.is_log a)) q)
-      (λ (a : HoldsRefused codec bytes at). ⊎_elim (λ b. absurd (not_both bytes a.format a.payloads other a.is_log b)) (λ (b : HoldsRefused codec bytes other).
-      let same = one_layout bytes a.format b.format a.payloads b.payloads a.is_log b.is_log in
-      one_refused (placed_in (start_of bytes) b.is_log.image b.is_log.tail) at other (subst (λ items. IsRefusedAt codec items at) (λ i. placed_in (start_of bytes) (same.0 i) (same.1 i)) a.refused) b.refused) q)
+      (λ a. ⊎_elim (λ b. one_place bytes at other a b) (λ b. absurd (not_both bytes b.0 at b.1 a)) q)
+      (λ a. ⊎_elim (λ b. absurd (not_both bytes a.0 other a.1 b)) (λ b.
+      one_refused (placed 8 b.0) at other (subst (λ payloads. IsRefusedAt codec (placed 8 payloads) at) (one_list bytes a.0 b.0 a.1 b.1) a.2) b.2) q)
       p

@@ -4,9 +4,9 @@ use Rattle.std.specs.Prelude.{◌↔◌}
 use Rattle.disk_core.specs.States.{DiskState}
 use Rattle.disk_core.specs.Moments.{EachImage, AtEachMoment}
 use Rattle.disk_core.proofs.Moments.{weaker}
-use Rattle.twin_log.specs.Twin.{IsTwinLog, IsEither}
-use Rattle.twin_log.specs.Logs.{disk_of, gate_of, format_of, is_closed, IsOpen}
-use Rattle.twin_log.specs.declared.log.TwinLog.{TwinLog}
+use Rattle.gate_log.specs.Log.{IsLog, IsBeforeOrAfter}
+use Rattle.gate_log.specs.Logs.{disk_of, gate_of, is_closed, IsOpen}
+use Rattle.gate_log.specs.declared.log.GateLog.{GateLog}
 use Rattle.gate_log.specs.declared.error.AppendError.{AppendError}
 use Rattle.gate_log.specs.declared.error.AppendError.TheVariants.{Full, Closed}
 use Rattle.field_codec.specs.FormLaws.{and_true}
@@ -28,7 +28,7 @@ pub not_true : (b : Bool) → (b ≡ true → ⊥) → b ≡ false
 not_true true h = absurd (h refl)
 not_true false h = refl
 
-module _ {E D : Type 0} (codec : Codec E) (state : D → DiskState) (old new : TwinLog D) (payload : List ℕ) (r : Record E) (spelled : codec.spelled r ≡ true) (is : payload ≡ codec.bytes r) where
+module _ {E D : Type 0} (codec : Codec E) (state : D → DiskState) (old new : GateLog D) (payload : List ℕ) (r : Record E) (spelled : codec.spelled r ≡ true) (is : payload ≡ codec.bytes r) where
   with_one : (log : List (Record E)) → are_spelled codec log ≡ true → are_spelled codec (r ∷ log) ≡ true
   with_one log all = and_true (codec.spelled r) (are_spelled codec log) spelled all
 
@@ -39,18 +39,18 @@ module _ {E D : Type 0} (codec : Codec E) (state : D → DiskState) (old new : T
     spelled = with_one log has.spelled;
   }
 
-  log_of_one : (log : List (Record E)) (image : List ℕ) → are_spelled codec log ≡ true → IsTwinLog image (format_of old) (payloads_of codec log ++ payload ∷ []) → HoldsLog codec image (r ∷ log)
-  log_of_one log image all h = record { format = format_of old; is_log = subst (λ p. IsTwinLog image (format_of old) (payloads_of codec log ++ p ∷ [])) is h; spelled = with_one log all }
+  log_of_one : (log : List (Record E)) (image : List ℕ) → are_spelled codec log ≡ true → IsLog image (payloads_of codec log ++ payload ∷ []) → HoldsLog codec image (r ∷ log)
+  log_of_one log image all h = record { is_log = subst (λ p. IsLog image (payloads_of codec log ++ p ∷ [])) is h; spelled = with_one log all }
 
-  pub keeps_one : ((payloads : List (List ℕ)) → IsOpen state old payloads → EachImage (λ image. IsTwinLog image (format_of old) (payloads ++ payload ∷ [])) (state (disk_of new)).story.now)
+  pub keeps_one : ((payloads : List (List ℕ)) → IsOpen state old payloads → EachImage (λ image. IsLog image (payloads ++ payload ∷ [])) (state (disk_of new)).story.now)
       → (log : List (Record E)) → HasRecords codec state old log → EachImage (λ image. HoldsLog codec image (r ∷ log)) (state (disk_of new)).story.now
   keeps_one durable log has = λ image left. log_of_one log image has.spelled (durable (payloads_of codec log) has.is_open image left)
 
-  pub moments_of_one : ((payloads : List (List ℕ)) → IsOpen state old payloads → AtEachMoment (state (disk_of old)).story (state (disk_of new)).story (IsEither (format_of old) payloads (format_of old) (payloads ++ payload ∷ [])))
+  pub moments_of_one : ((payloads : List (List ℕ)) → IsOpen state old payloads → AtEachMoment (state (disk_of old)).story (state (disk_of new)).story (IsBeforeOrAfter payloads payload))
       → (log : List (Record E)) → HasRecords codec state old log → AtEachMoment (state (disk_of old)).story (state (disk_of new)).story (HoldsFront codec log (r ∷ []))
   moments_of_one moments log has =
-      weaker (state (disk_of old)).story (state (disk_of new)).story (IsEither (format_of old) (payloads_of codec log) (format_of old) (payloads_of codec log ++ payload ∷ [])) (HoldsFront codec log (r ∷ []))
-      (λ image. ⊎_elim (λ before. (log, inl refl, record { format = format_of old; is_log = before; spelled = has.spelled })) (λ after. (r ∷ log, inr refl, log_of_one log image has.spelled after)))
+      weaker (state (disk_of old)).story (state (disk_of new)).story (IsBeforeOrAfter (payloads_of codec log) payload) (HoldsFront codec log (r ∷ []))
+      (λ image. ⊎_elim (λ before. (log, inl refl, record { is_log = before; spelled = has.spelled })) (λ after. (r ∷ log, inr refl, log_of_one log image has.spelled after)))
       (moments (payloads_of codec log) has.is_open)
 
   long : length payload ≡ length (codec.bytes r)

@@ -4,8 +4,6 @@ use Rattle.std.specs.Prelude.{map}
 use Rattle.std.proofs.lemmas.List.{append-nil}
 use Rattle.field_codec.specs.FormLaws.{and_true}
 use Rattle.gate_log.specs.Payloads.{placed, AreWithin}
-use Rattle.twin_log.specs.Twin.{items}
-use Rattle.twin_log.specs.Payloads.{placed_items, placed_in}
 use Rattle.crdt_core.specs.declared.record.Record.{Record}
 use Rattle.log_records.specs.declared.error.RecordError.TheVariants.{Damaged}
 use Rattle.log_records.specs.Whole.{whole_at}
@@ -65,23 +63,10 @@ module _ {E : Type 0} (codec : Codec E) (all : List Item) where
   all_read left e so = (so.log, subst (λ items. AreRecords codec items so.log) (sym (so.is ∙ ap (λ l. so.front ++ l) e ∙ append-nil so.front)) so.read)
 
 -- the payloads of what is placed
-unplaced : (at : ℕ) (payloads : List (List ℕ)) → map (λ item. item.1) (placed at payloads) ≡ payloads
+pub unplaced : (at : ℕ) (payloads : List (List ℕ)) → map (λ item. item.1) (placed at payloads) ≡ payloads
 unplaced at [] = refl
 unplaced at (payload ∷ payloads) = ap (λ l. payload ∷ l) (unplaced (at + 5 + length payload) payloads)
 
-unplaced_items : (at : ℕ) (payloads : List (List ℕ)) → map (λ item. item.1) (placed_items at payloads) ≡ payloads
-unplaced_items at [] = refl
-unplaced_items at (payload ∷ payloads) = ap (λ l. payload ∷ l) (unplaced_items (at + 4 + length payload) payloads)
-
-map_joined : {X Y : Type 0} (f : X → Y) (xs ys : List X) → map f (xs ++ ys) ≡ map f xs ++ map f ys
-map_joined f [] ys = refl
-map_joined f (x ∷ xs) ys = ap (λ l. f x ∷ l) (map_joined f xs ys)
-
-pub unplaced_in : (start : ℕ) (image tail : List (List ℕ)) → map (λ item. item.1) (placed_in start image tail) ≡ image ++ tail
-unplaced_in start image tail =
-    map_joined (λ (item : Item). item.1) (placed_items (start + 5) image) (placed (start + 5 + length (items image)) tail)
-    ∙ (λ i. unplaced_items (start + 5) image i ++ unplaced (start + 5 + length (items image)) tail i)
-
 -- what is read of the payloads of a log are its records
-pub same_payloads : {E : Type 0} (codec : Codec E) (read : List Item) (start : ℕ) (image tail : List (List ℕ)) (log : List (Record E)) → read ≡ placed_in start image tail → AreRecords codec read log → image ++ tail ≡ payloads_of codec log
-same_payloads codec read start image tail log e records = sym (unplaced_in start image tail) ∙ ap (map (λ item. item.1)) (sym e) ∙ records.payloads
+pub same_payloads : {E : Type 0} (codec : Codec E) (items : List Item) (payloads : List (List ℕ)) (log : List (Record E)) → items ≡ placed 8 payloads → AreRecords codec items log → payloads ≡ payloads_of codec log
+same_payloads codec items payloads log e read = sym (unplaced 8 payloads) ∙ ap (map (λ item. item.1)) (sym e) ∙ read.payloads

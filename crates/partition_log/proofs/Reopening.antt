@@ -12,8 +12,8 @@ use Rattle.partition_log.specs.Damage.{AreRecords, IsDamaged}
 use Rattle.partition_log.proofs.Opened.{opened_holds}
 use Rattle.partition_log.proofs.Damaged.{never_both_of}
 use Rattle.partition_log.proofs.Unchanged.{image_at_rest}
-use Rattle.twin_log.specs.Logs.{disk_of, read_at_opening}
-use Rattle.twin_log.specs.declared.log.TwinLog.{TwinLog}
+use Rattle.gate_log.specs.Logs.{disk_of, read_at_opening}
+use Rattle.gate_log.specs.declared.log.GateLog.{GateLog}
 
 -- whatever is answered
 pub either_way : {T X A B : Type 0} (r : Result T X) → OnOk r A → OnErr r (B ⊎ A) → B ⊎ A
@@ -26,7 +26,7 @@ module _ {E : Type 0} (codec : Codec E) where
   front_left old new log torn told moments = record { tells = told; each = at_last old.story new.story (HoldsFront codec log torn) moments }
 
   -- what a log leaves between two calls
-  pub front_at_rest : {D : Type 0} (state : D → DiskState) (gates : TwinLog D) (log torn : List (Record E)) → HasRecords codec state gates log → LeavesFront codec log torn (state (disk_of gates))
+  pub front_at_rest : {D : Type 0} (state : D → DiskState) (gates : GateLog D) (log torn : List (Record E)) → HasRecords codec state gates log → LeavesFront codec log torn (state (disk_of gates))
   front_at_rest state gates log torn has = record { tells = has.is_open.at_rest.tells; each = image_at_rest codec state gates torn log has }
 
 module _ {E : Type 0} (codec : Codec E) (log torn : List (Record E)) (disk : DiskState) (image : ReadsAnImage disk) (leaves : LeavesFront codec log torn disk) where
@@ -42,7 +42,7 @@ module _ {E : Type 0} (codec : Codec E) (log torn : List (Record E)) (disk : Dis
       did
 
   -- and so are the records that are read
-  pub front_found : {D : Type 0} (state : D → DiskState) (gates : TwinLog D) → IsOpened state disk gates → (found : List (Record E)) × MayFind log torn found × AreRecords codec (read_at_opening gates) found × HasRecords codec state gates found
+  pub front_found : {D : Type 0} (state : D → DiskState) (gates : GateLog D) → IsOpened state disk gates → (found : List (Record E)) × MayFind log torn found × AreRecords codec (read_at_opening gates) found × HasRecords codec state gates found
   front_found state gates opened = let front = front_read in let has = opened_holds codec state disk gates opened leaves.tells front.0 front.2 in (front.0, front.1, has.0, has.1)
 
   module _ (reads : (bytes : List ℕ) (r : Record E) → codec.spelled r ≡ true → bytes ≡ codec.bytes r → whole_at codec.reading bytes ≡ Ok r) where

@@ -3,9 +3,9 @@ use Rattle.std.proofs.Common.{◌≡◌, ◌≢◌, inl, inr, ⊎_elim, ℕ, ◌
 use Rattle.std.specs.Prelude.{IfErr, IsTrue}
 use Rattle.disk_core.specs.States.{DiskState, GoesOn, Rose, Fails, fewer, Spared}
 use Rattle.disk_core.proofs.Moments.{weaker, joined}
-use Rattle.twin_log.specs.Logs.{disk_of, gate_of, is_closed}
+use Rattle.gate_log.specs.Logs.{disk_of, gate_of, is_closed}
 use Rattle.gate_log.specs.Rest.{Lowers}
-use Rattle.twin_log.specs.declared.log.TwinLog.{TwinLog}
+use Rattle.gate_log.specs.declared.log.GateLog.{GateLog}
 use Rattle.gate_log.specs.declared.error.AppendError.{AppendError}
 use Rattle.gate_log.specs.declared.error.AppendError.TheVariants.{Failed, Full, Closed, NoMemory}
 use Rattle.crdt_core.specs.declared.record.Record.{Record}
@@ -64,7 +64,7 @@ module _ {E : Type 0} (codec : Codec E) (r s : Record E) where
   second_front : (log : List (Record E)) (image : List ℕ) → HoldsFront codec (r ∷ log) (s ∷ []) image → HoldsFront codec log (r ∷ s ∷ []) image
   second_front log image found = (found.0, inr found.1, found.2)
 
-module _ {E D T : Type 0} (codec : Codec E) (state : D → DiskState) (old mid : TwinLog D) (r s : Record E) where
+module _ {E D T : Type 0} (codec : Codec E) (state : D → DiskState) (old mid : GateLog D) (r s : Record E) where
   -- the first was refused by a fault
   pub first_failed : (e : AppendError) → is_closed old ≡ false → gate_of old + size codec (r ∷ s ∷ []) + 1 ≤ (state (disk_of old)).room
       → Appends {T = T} codec state (Err e) old mid (r ∷ []) → Appends {T = T} codec state (Err e) old mid (r ∷ s ∷ [])
@@ -88,7 +88,7 @@ module _ {E D T : Type 0} (codec : Codec E) (state : D → DiskState) (old mid :
     spared = tt;
   }
 
-  module _ (new : TwinLog D) (x : T) (first : Appends {T = T} codec state (Ok x) old mid (r ∷ [])) (open_still : is_closed old ≡ false) (fits : gate_of old + size codec (r ∷ s ∷ []) + 1 ≤ (state (disk_of old)).room) where
+  module _ (new : GateLog D) (x : T) (first : Appends {T = T} codec state (Ok x) old mid (r ∷ [])) (open_still : is_closed old ≡ false) (fits : gate_of old + size codec (r ∷ s ∷ []) + 1 ≤ (state (disk_of old)).room) where
     behind : gate_of mid ≡ gate_of old + size codec (r ∷ [])
     behind = first.gate
 

@@ -3,12 +3,11 @@ use Rattle.std.proofs.Common.{◌≡◌, ◌≢◌, inl, ℕ, ◌+◌, ◌-◌, 
 use Rattle.disk_core.specs.States.{DiskState, fewer}
 use Rattle.disk_core.specs.Moments.{EachImage, AtEachMoment}
 use Rattle.disk_core.proofs.Moments.{at_first}
-use Rattle.twin_log.specs.Logs.{disk_of, gate_of, is_closed, IsReady}
-use Rattle.twin_log.specs.declared.log.TwinLog.{TwinLog}
+use Rattle.gate_log.specs.Logs.{disk_of, gate_of, is_closed, IsReady}
+use Rattle.gate_log.specs.declared.log.GateLog.{GateLog}
 use Rattle.gate_log.specs.declared.error.AppendError.{AppendError}
 use Rattle.gate_log.specs.declared.error.AppendError.TheVariants.{Failed, Full, Closed, NoMemory}
-use Rattle.twin_log.specs.Logs.{spot_of}
-use Rattle.twin_log.proofs.Holds.{log_left}
+use Rattle.gate_log.proofs.Steps.{is_log}
 use Rattle.crdt_core.specs.declared.record.Record.{Record}
 use Rattle.crdt_core.specs.Log.{MayFind}
 use Rattle.partition_log.specs.Codec.{Codec}
@@ -27,13 +26,14 @@ pub found_itself : {E : Type 0} (log records : List (Record E)) → MayFind log 
 found_itself log [] = refl
 found_itself log (r ∷ records) = inl refl
 
-module _ {E D : Type 0} (codec : Codec E) (state : D → DiskState) (old : TwinLog D) (records : List (Record E)) where
+module _ {E D : Type 0} (codec : Codec E) (state : D → DiskState) (old : GateLog D) (records : List (Record E)) where
   -- each crash between two calls leaves the log
   pub image_at_rest : (log : List (Record E)) → HasRecords codec state old log → EachImage (HoldsFront codec log records) (state (disk_of old)).story.now
   image_at_rest log has = λ image left.
-      (log, found_itself log records, record { format = (spot_of old).format; is_log = log_left (state (disk_of old)) (spot_of old) (payloads_of codec log) image has.is_open.at_rest left; spelled = has.spelled })
+      let rest = has.is_open.at_rest in
+      (log, found_itself log records, record { is_log = is_log (state (disk_of old)).story.now (payloads_of codec log) image rest.settled rest.log left; spelled = has.spelled })
 
-module _ {E D : Type 0} (T : Type 0) (codec : Codec E) (state : D → DiskState) (old : TwinLog D) (ready : IsReady state old) (records : List (Record E)) where
+module _ {E D : Type 0} (T : Type 0) (codec : Codec E) (state : D → DiskState) (old : GateLog D) (ready : IsReady state old) (records : List (Record E)) where
   at_rest : (log : List (Record E)) → HasRecords codec state old log → AtEachMoment (state (disk_of old)).story (state (disk_of old)).story (HoldsFront codec log records)
   at_rest log has = at_first (state (disk_of old)).story (HoldsFront codec log records) (image_at_rest codec state old records log has)
 

@@ -2,9 +2,9 @@
 use Rattle.std.specs.Prelude.{◌≡◌, ◌≢◌, ℕ, ◌+◌, ◌*◌, ◌<◌, true, false, List, length, Result, Err, OnOk, IfErr}
 use Rattle.disk_core.specs.States.{DiskState, GoesOn, Fails, fewer, Spared}
 use Rattle.disk_core.specs.Moments.{EachImage, AtEachMoment}
-use Rattle.twin_log.specs.Logs.{disk_of, gate_of, is_closed, read_at_opening, IsReady}
+use Rattle.gate_log.specs.Logs.{disk_of, gate_of, is_closed, read_at_opening, IsReady}
 use Rattle.gate_log.specs.Rest.{Lowers}
-use Rattle.twin_log.specs.declared.log.TwinLog.{TwinLog}
+use Rattle.gate_log.specs.declared.log.GateLog.{GateLog}
 use Rattle.gate_log.specs.declared.error.AppendError.{AppendError}
 use Rattle.gate_log.specs.declared.error.AppendError.TheVariants.{Failed, Full, Closed, NoMemory}
 use Rattle.crdt_core.specs.declared.record.Record.{Record}
@@ -13,7 +13,7 @@ use Rattle.partition_log.specs.Codec.{Codec}
 use Rattle.partition_log.specs.Logs.{HoldsLog, HoldsFront, HasRecords, size}
 
 -- By the log before and after the call, and the records, the oldest first.
-pub record Appends {E D T : Type 0} (codec : Codec E) (state : D → DiskState) (result : Result T AppendError) (old new : TwinLog D) (records : List (Record E)) : Type 0 where
+pub record Appends {E D T : Type 0} (codec : Codec E) (state : D → DiskState) (result : Result T AppendError) (old new : GateLog D) (records : List (Record E)) : Type 0 where
   -- once it answers Ok the log has them, and every crash leaves them
   pub appended : OnOk result ((log : List (Record E)) → HasRecords codec state old log → HasRecords codec state new (grown log records))
   pub durable : OnOk result ((log : List (Record E)) → HasRecords codec state old log → EachImage (λ image. HoldsLog codec image (grown log records)) (state (disk_of new)).story.now)

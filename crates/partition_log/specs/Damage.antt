@@ -1,8 +1,8 @@
 -- Which bytes are no log of records, and at which place; and what is read of a log.
 use Rattle.std.specs.Prelude.{◌≡◌, ◌⊎◌, ℕ, ◌+◌, true, List, ◌∷◌, ◌++◌, map, Err}
-use Rattle.twin_log.specs.Twin.{IsTwinLog, start_of}
-use Rattle.twin_log.specs.Damage.{IsDamagedAt}
-use Rattle.twin_log.specs.Payloads.{placed_in}
+use Rattle.gate_log.specs.Log.{IsLog}
+use Rattle.gate_log.specs.Damage.{IsDamagedAt}
+use Rattle.gate_log.specs.Payloads.{placed}
 use Rattle.crdt_core.specs.declared.record.Record.{Record}
 use Rattle.log_records.specs.declared.error.RecordError.TheVariants.{Damaged}
 use Rattle.log_records.specs.Whole.{whole_at}
@@ -32,13 +32,6 @@ module _ {E : Type 0} (codec : Codec E) where
     pub damaged : whole_at codec.reading payload ≡ Err (Damaged within)
     pub here : at ≡ place + within
 
-  -- they are a log of payloads, of which the first that is no record is damaged there
-  pub record HoldsRefused (bytes : List ℕ) (at : ℕ) : Type 0 where
-    pub format : ℕ
-    pub payloads : List (List ℕ)
-    pub is_log : IsTwinLog bytes format payloads
-    pub refused : IsRefusedAt (placed_in (start_of bytes) is_log.image is_log.tail) at
-
   -- they are no log of payloads, or their first payload that is no record is damaged there
   abbrev pub IsDamaged : List ℕ → ℕ → Type 0
-  IsDamaged bytes at = IsDamagedAt bytes at ⊎ HoldsRefused bytes at
+  IsDamaged bytes at = IsDamagedAt bytes at ⊎ ((payloads : List (List ℕ)) × IsLog bytes payloads × IsRefusedAt (placed 8 payloads) at)

@@ -3,11 +3,10 @@ use Rattle.std.specs.Prelude.{◌≡◌, ℕ, ◌+◌, Bool, true, List, [], ◌
 use Rattle.std.specs.List.{list_all}
 use Rattle.disk_core.specs.States.{DiskState, bytes_of}
 use Rattle.disk_core.specs.Moments.{EachImage}
-use Rattle.twin_log.specs.Twin.{IsTwinLog}
-use Rattle.twin_log.specs.Found.{HasParts}
-use Rattle.twin_log.specs.Logs.{spot_of, area_of, IsOpen, read_at_opening}
-use Rattle.twin_log.specs.Payloads.{placed_in}
-use Rattle.twin_log.specs.declared.log.TwinLog.{TwinLog}
+use Rattle.gate_log.specs.Log.{IsLog}
+use Rattle.gate_log.specs.Logs.{IsOpen, read_at_opening}
+use Rattle.gate_log.specs.Payloads.{placed}
+use Rattle.gate_log.specs.declared.log.GateLog.{GateLog}
 use Rattle.crdt_core.specs.declared.record.Record.{Record}
 use Rattle.crdt_core.specs.Log.{MayFind}
 use Rattle.partition_log.specs.Codec.{Codec}
@@ -21,10 +20,9 @@ module _ {E : Type 0} (codec : Codec E) where
   abbrev pub are_spelled : List (Record E) → Bool
   are_spelled log = list_all codec.spelled log
 
-  -- the bytes are a log of these records, of some format
+  -- the bytes are a log of these records
   pub record HoldsLog (bytes : List ℕ) (log : List (Record E)) : Type 0 where
-    pub format : ℕ
-    pub is_log : IsTwinLog bytes format (payloads_of log)
+    pub is_log : IsLog bytes (payloads_of log)
     pub spelled : are_spelled log ≡ true
 
   -- the bytes are the log before with the first of these records, or none, or all
@@ -37,18 +35,17 @@ module _ {E : Type 0} (codec : Codec E) where
     pub each : EachImage (HoldsFront log records) disk.story.now
 
   -- an open log over a disk that tells what it holds has these records
-  pub record HasRecords {D : Type 0} (state : D → DiskState) (gates : TwinLog D) (log : List (Record E)) : Type 0 where
+  pub record HasRecords {D : Type 0} (state : D → DiskState) (gates : GateLog D) (log : List (Record E)) : Type 0 where
     pub is_open : IsOpen state gates (payloads_of log)
     pub spelled : are_spelled log ≡ true
 
-  -- how many bytes these records take behind an image: each its gate, its length and its payload
+  -- how many bytes these records take: each its gate, its length and its payload
   abbrev pub size : List (Record E) → ℕ
   size [] = 0
   size (r ∷ records) = 5 + length (codec.bytes r) + size records
 
--- What was read at opening are the payloads of what the disk held, if it tells that, those of its image and those of its tail, and the log is open with them.
-pub record IsOpened {D : Type 0} (state : D → DiskState) (disk : DiskState) (gates : TwinLog D) : Type 0 where
-  pub image : List (List ℕ)
-  pub tail : List (List ℕ)
-  pub read : read_at_opening gates ≡ placed_in (area_of gates) image tail
-  pub holds : IsTrue disk.tells → HasParts (bytes_of disk) (spot_of gates) image tail × IsOpen state gates (image ++ tail)
+-- What was read at opening are the payloads of what the disk held, if it tells that, and the log is open with them.
+pub record IsOpened {D : Type 0} (state : D → DiskState) (disk : DiskState) (gates : GateLog D) : Type 0 where
+  pub payloads : List (List ℕ)
+  pub read : read_at_opening gates ≡ placed 8 payloads
+  pub holds : IsTrue disk.tells → IsLog (bytes_of disk) payloads × IsOpen state gates payloads

@@ -1,6 +1,6 @@
 // Appending payloads that are records.
 ghost use Rattle.std.specs.Prelude.{◌≡◌, ◌≢◌, ◌≤◌, ◌<◌, ◌+◌, [], ◌∷◌, true, false, length, Err};
-ghost use Rattle.twin_log.specs.Logs.{disk_of, gate_of, IsReady};
+ghost use Rattle.gate_log.specs.Logs.{disk_of, gate_of, IsReady};
 ghost use Rattle.gate_log.specs.declared.error.AppendError.TheVariants.{NoMemory as OutOfMemory};
 ghost use Rattle.crdt_core.specs.declared.record.Record.{Record};
 ghost use Rattle.partition_log.specs.Codec.{codec_of};
@@ -8,11 +8,11 @@ ghost use Rattle.partition_log.specs.Appends.{Appends};
 
 use crdt_core::Crdt;
 use disk_core::Disk;
-use twin_log::{AppendError, TwinLog};
+use gate_log::{AppendError, GateLog};
 
 /// Appends a record's bytes.
 pub(crate) fn append_one<C: Crdt, D: Disk + Drop>(
-    log: &mut TwinLog<D>,
+    log: &mut GateLog<D>,
     payload: &[u8],
 ) -> Result<(), AppendError>
     requires some { 1 ≤ length payload.now }
@@ -26,7 +26,7 @@ pub(crate) fn append_one<C: Crdt, D: Disk + Drop>(
 }
 
 /// Whether two payloads fit the room of the disk together.
-fn has_room<D: Disk + Drop>(log: &TwinLog<D>, first: &[u8], second: &[u8]) -> bool
+fn has_room<D: Disk + Drop>(log: &GateLog<D>, first: &[u8], second: &[u8]) -> bool
     requires { IsReady D.state log.now }
     ensures fits { result ≡ true → gate_of log.now + (5 + length first.now + (5 + length second.now)) + 1 ≤ (D.state (disk_of log.now)).room }
     ensures past { result ≡ false → (D.state (disk_of log.now)).room < gate_of log.now + (5 + length first.now + (5 + length second.now)) + 1 }
@@ -39,7 +39,7 @@ fn has_room<D: Disk + Drop>(log: &TwinLog<D>, first: &[u8], second: &[u8]) -> bo
 
 /// Appends the bytes of two records, where there is room for both.
 pub(crate) fn append_two<C: Crdt, D: Disk + Drop>(
-    log: &mut TwinLog<D>,
+    log: &mut GateLog<D>,
     first: &[u8],
     second: &[u8],
 ) -> Result<(), AppendError>

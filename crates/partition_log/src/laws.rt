@@ -1,8 +1,8 @@
-ghost use Rattle.std.specs.Prelude.{◌≡◌, ◌≤◌, ◌+◌, ℕ, List, length, IsTrue};
+ghost use Rattle.std.specs.Prelude.{◌≡◌, ◌+◌, ℕ, List, IsTrue};
 ghost use Rattle.disk_core.specs.States.{DiskState};
 ghost use Rattle.disk_core.specs.Moments.{AtEachMoment};
-ghost use Rattle.twin_log.specs.Logs.{disk_of, gate_of, area_of};
-ghost use Rattle.twin_log.specs.declared.log.TwinLog.{TwinLog};
+ghost use Rattle.gate_log.specs.Logs.{disk_of, gate_of};
+ghost use Rattle.gate_log.specs.declared.log.GateLog.{GateLog};
 ghost use Rattle.crdt_core.specs.declared.record.Record.{Record};
 ghost use Rattle.crdt_core.specs.Log.{grown};
 ghost use Rattle.partition_log.specs.Codec.{codec_of};
@@ -20,12 +20,10 @@ pub fn law_part_log<C: Crdt>()
     ensures not_both { (bytes : List ℕ) (log : List (Record C.Effect)) (at : ℕ) → HoldsLog (codec_of C.spells) bytes log → IsDamaged (codec_of C.spells) bytes at → ⊥ }
 {}
 
-/// How long the area of a log is, by its records alone: its closed gate stands behind five bytes and those of its
-/// records, of which those in its image take one byte less each, since they have no gate.
+/// How long a log is, by its records alone: its closed gate stands behind eight bytes and those of its records.
 pub fn law_sizes<C: Crdt, D: Disk + Drop>()
-    ensures gate { (gates : TwinLog D) (log : List (Record C.Effect))
-        → HasRecords (codec_of C.spells) D.state gates log → (images : ℕ) × (images ≤ length log)
-        × (gate_of gates + images ≡ area_of gates + 5 + size (codec_of C.spells) log) }
+    ensures gate { (gates : GateLog D) (log : List (Record C.Effect))
+        → HasRecords (codec_of C.spells) D.state gates log → gate_of gates ≡ 8 + size (codec_of C.spells) log }
     ensures grown { (log records : List (Record C.Effect)) → size (codec_of C.spells) (grown log records)
         ≡ size (codec_of C.spells) log + size (codec_of C.spells) records }
 {}
@@ -33,7 +31,7 @@ pub fn law_sizes<C: Crdt, D: Disk + Drop>()
 /// The disks of which `PartLog::reopen` says what it finds: one at rest, and one that a call left that was cut off, or
 /// failed, or went through.
 pub fn law_fronts<C: Crdt, D: Disk + Drop>()
-    ensures at_rest { (gates : TwinLog D) (log torn : List (Record C.Effect))
+    ensures at_rest { (gates : GateLog D) (log torn : List (Record C.Effect))
         → HasRecords (codec_of C.spells) D.state gates log
         → LeavesFront (codec_of C.spells) log torn (D.state (disk_of gates)) }
     ensures left { (old new : DiskState) (log torn : List (Record C.Effect)) → IsTrue new.tells

@@ -7,7 +7,7 @@ ghost use Rattle.log_records.specs.Messages.{can_put_batch};
 ghost use Rattle.log_records.specs.Records.{can_put_record};
 ghost use Rattle.partition_log.specs.Codec.{codec_of};
 ghost use Rattle.partition_log.specs.Appends.{Appends};
-ghost use Rattle.twin_log.specs.Damage.{IsDamagedAt};
+ghost use Rattle.gate_log.specs.Damage.{IsDamagedAt};
 ghost use Rattle.gate_log.specs.Payloads.{AreWithin};
 ghost use Rattle.partition_log.specs.Logs.{HoldsLog, HoldsFront, LeavesFront, HasRecords, IsOpened};
 ghost use Rattle.partition_log.specs.Damage.{AreRecords, IsRefusedAt};
@@ -20,11 +20,11 @@ use crate::opening::{check_records, last_ceiling};
 use crate::payload::{payload_of, payload_of_batch};
 use crdt_core::{Crdt, Message, Record};
 use disk_core::{Disk, Fused};
+use gate_log::{AppendError, GateLog, OpenError, Payloads};
 use log_records::Short;
 use site_vector::{TxId, VTime};
 use std::alloc::Global;
 use std::marker::PhantomData;
-use twin_log::{AppendError, OpenError, Payloads, TwinLog};
 
 /// The log of a partition: a list of records on a disk.
 ///
@@ -32,12 +32,12 @@ use twin_log::{AppendError, OpenError, Payloads, TwinLog};
 /// and once it has answered `Ok` with all.
 #[derive(Drop)]
 pub struct PartLog<C: Crdt, D: Disk + Drop> {
-    log: TwinLog<D>,
+    log: GateLog<D>,
     kinds: PhantomData<C>,
 }
 
 impl<C: Crdt, D: Disk + Drop> PartLog<C, D> {
-    ghost use Rattle.twin_log.specs.Logs.{IsReady, disk_of, gate_of, is_closed, read_at_opening};
+    ghost use Rattle.gate_log.specs.Logs.{IsReady, disk_of, gate_of, is_closed, read_at_opening};
     ghost use Rattle.gate_log.specs.Rest.{Lowers};
     ghost use Rattle.gate_log.specs.declared.error.OpenError.TheVariants.{Failed as OpenFailed, Damaged};
     ghost use Rattle.partition_log.specs.Gates.{gates_of, leases};
@@ -69,7 +69,7 @@ impl<C: Crdt, D: Disk + Drop> PartLog<C, D> {
             (λ e. Lowers 3 (D.state disk).left (D.state e.0).left) }
         ensures unfired { IfOk result (λ log. (D.state (disk_of (gates_of log))).left ≢ Some 0) }
     {
-        match TwinLog::open(alloc, disk) {
+        match GateLog::open(alloc, disk) {
             Err(refused) => Err(refused),
             Ok(log) => Ok(PartLog {
                 log,
@@ -302,7 +302,7 @@ impl<C: Crdt, D: Disk + Drop> PartLog<C, D> {
 impl<C: Crdt, D: Disk + Drop> PartLog<C, Fused<D>> {
     ghost use Rattle.std.specs.Prelude.{None};
     ghost use Rattle.disk_core.specs.Fuses.{inside, calls_left, cut_length, fused_state};
-    ghost use Rattle.twin_log.specs.Logs.{disk_of, gate_of, is_closed, read_at_opening, IsReady};
+    ghost use Rattle.gate_log.specs.Logs.{disk_of, gate_of, is_closed, read_at_opening, IsReady};
     ghost use Rattle.partition_log.specs.Gates.{gates_of};
 
     /// Arms the fuse of the disk, also where the log is closed, and changes nothing else.

@@ -10,9 +10,9 @@ ghost use Rattle.partition_log.specs.Codec.{codec_of};
 ghost use Rattle.partition_log.specs.Damage.{IsRecord, AreRecords, IsRefusedAt};
 
 use crdt_core::{Crdt, Record};
+use gate_log::{OpenError, Payloads};
 use log_records::{RecordError, lease_of, take};
 use std::alloc::Global;
-use twin_log::{OpenError, Payloads};
 
 /// The record that the payload at a place of a log is.
 ///

@@ -10,11 +10,11 @@ use crdt_core::{Crdt, Kind, Message, ObjectId, Record, Value};
 use crdt_counters::CounterPn;
 use disk_core::{Fused, MemDisk};
 use field_codec::Text;
+use gate_log::format;
 use partition_core::{DurablePartition, Restarted};
 use site_vector::{PartId, TxId, VTime};
 use std::alloc::Global;
 use std::marker::Model;
-use twin_log::format;
 use world_model::Mode;
 
 /// How many sites the cluster has, and how many partitions each of them.

@@ -3,8 +3,8 @@ use Rattle.std.proofs.Common.{◌≡◌, ◌≢◌, ℕ, zero, suc, ◌*◌, ◌
 use Rattle.std.specs.Prelude.{IsTrue}
 use Rattle.site_vector.specs.declared.ids.PartId.{PartId}
 use Rattle.disk_core.specs.States.{DiskState, GoesOn}
-use Rattle.twin_log.specs.Logs.{disk_of}
-use Rattle.twin_log.specs.declared.log.TwinLog.{TwinLog}
+use Rattle.gate_log.specs.Logs.{disk_of}
+use Rattle.gate_log.specs.declared.log.GateLog.{GateLog}
 use Rattle.world_model.specs.rules.Event.{Entry, Crashed, RestartCut}
 use Rattle.world_model.specs.rules.Event as event
 use Rattle.world_model.specs.rules.Partition.{PartState}
@@ -50,7 +50,7 @@ module _ {S E D : Type 0} (w : Types S E D) (sites parts : ℕ) (items : List (D
 
   pub crashed : is_down u ≡ true → Crashes w.kinds w.codec w.state t u → CrashesAt w old new at
   crashed down c = record {
-    moves = moves w sites parts items old view size at place i is below t u there (stays_so _ _ (ap (λ (g : TwinLog D). w.state (disk_of g)) c.disk));
+    moves = moves w sites parts items old view size at place i is below t u there (stays_so _ _ (ap (λ (g : GateLog D). w.state (disk_of g)) c.disk));
     down = down;
     disk = c.disk;
     goes = λ run r. reached_as w sites parts items old view size at place i is below t u there c.same run r Crashed (c.step (r.state at) (stood run r).stands) tt tt tt tt;

@@ -5,8 +5,7 @@ use Rattle.std.specs.Prelude.{leb, true, false, get_or, None, IsTrue, ⊤}
 use Rattle.std.proofs.lemmas.Nat.{mul-le}
 use Rattle.std.proofs.lemmas.List.{get_or_push, get_or_append_left, length_push}
 use Rattle.site_vector.specs.declared.ids.PartId.{PartId}
-use Rattle.twin_log.specs.Rests.{AtRest}
-use Rattle.twin_log.specs.declared.spot.Spot.{Spot}
+use Rattle.gate_log.specs.Rest.{AtRest}
 use Rattle.world_model.specs.rules.Partition.{new_part}
 use Rattle.world_model.specs.lines.Places.{IsPlace}
 use Rattle.partition_core.specs.Durable.{Durable, StandsOn, disk_in}
@@ -109,7 +108,7 @@ module _ {S E D : Type 0} (w : Types S E D) (sites parts : ℕ) where
           (less_or (index_of parts q) (length made) (subst (λ n. index_of parts q < n) (length_push made p) l));
     }
 
-    pub filling_more : (p : Durable E D) → (disk_in w.state p).left ≡ None → (disk_in w.state p).sound ≡ (w.state d).sound → (p.tables.id ≡ next) × (p.tables.sites ≡ sites) × (p.tables.parts ≡ parts) → ((spot : Spot) → AtRest (w.state d) spot [] → StandsOn w.codec w.state p (new_part sites parts))
+    pub filling_more : (p : Durable E D) → (disk_in w.state p).left ≡ None → (disk_in w.state p).sound ≡ (w.state d).sound → (p.tables.id ≡ next) × (p.tables.sites ≡ sites) × (p.tables.parts ≡ parts) → ((end : ℕ) → AtRest (w.state d) end [] → StandsOn w.codec w.state p (new_part sites parts))
         → (all : List (Durable E D)) → all ≡ made ++ p ∷ [] → (after : PartId) → index_of parts after ≡ index_of parts next + 1 → 1 ≤ after.site → 1 ≤ after.part → after.part ≤ parts → IsFilling disks more all after
     filling_more p left alike place stands all e after index least_site least_part most_part =
         let grown : length all ≡ length made + 1 = ap length e ∙ length_push made p in

@@ -1,9 +1,7 @@
 -- What a cluster is made of, and what is handed back where it isn't made.
 use Rattle.std.specs.Prelude.{◌≡◌, ℕ, List, [], ◌∷◌, ◌++◌, length, ⊤}
 use Rattle.disk_core.specs.States.{DiskState, GoesOn, Fails}
-use Rattle.gate_log.specs.Rest.{Lowers}
-use Rattle.twin_log.specs.Rests.{AtRest}
-use Rattle.twin_log.specs.declared.spot.Spot.{Spot}
+use Rattle.gate_log.specs.Rest.{AtRest, Lowers}
 use Rattle.site_vector.specs.declared.ids.PartId.{PartId}
 use Rattle.world_model.specs.lines.Places.{IsPlace}
 use Rattle.partition_core.specs.declared.restart.RestartError.{RestartError}
@@ -16,7 +14,7 @@ module _ {D : Type 0} (state : D → DiskState) where
   -- each disk holds a log without a record
   abbrev pub AreBlank : List D → Type 0
   AreBlank [] = ⊤
-  AreBlank (d ∷ ds) = ((spot : Spot) × AtRest (state d) spot []) × AreBlank ds
+  AreBlank (d ∷ ds) = ((end : ℕ) × AtRest (state d) end []) × AreBlank ds
 
   -- the disk that was made for this partition, after at most three calls; it failed only where its count of faults rose
   pub record CameBack (sites parts : ℕ) (disks : List D) (at : PartId) (disk : D) (why : RestartError) : Type 0 where

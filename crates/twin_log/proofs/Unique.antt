@@ -82,12 +82,6 @@ one_list bytes f g xs ys x y =
     let same = same_areas f g x.image y.image x.tail y.tail (x.gate ∷ x.rest) (y.gate ∷ y.rest) x.few y.few x.image_sized y.image_sized x.tail_sized y.tail_sized (shut_gate x.gate x.rest x.shut) (shut_gate y.gate y.rest y.shut) (sym x.is ∙ y.is) in
     (same.0, x.listed ∙ (λ i. same.1 i ++ same.2 i) ∙ sym y.listed)
 
--- and the same of these payloads stand in the image
-pub one_layout : (bytes : List ℕ) (f g : ℕ) (xs ys : List (List ℕ)) (x : IsTwinLog bytes f xs) (y : IsTwinLog bytes g ys) → (x.image ≡ y.image) × (x.tail ≡ y.tail)
-one_layout bytes f g xs ys x y =
-    let same = same_areas f g x.image y.image x.tail y.tail (x.gate ∷ x.rest) (y.gate ∷ y.rest) x.few y.few x.image_sized y.image_sized x.tail_sized y.tail_sized (shut_gate x.gate x.rest x.shut) (shut_gate y.gate y.rest y.shut) (sym x.is ∙ y.is) in
-    (same.1, same.2)
-
 -- an image that is cut off is no image
 image_cut : (bytes : List ℕ) (at format : ℕ) (image more : List (List ℕ)) (s : List ℕ) → IsCutInImage bytes at → length image < 2 ^ 32 → AreSized image → drop (start_of bytes) bytes ≡ area format image ++ records more ++ s → ⊥
 image_cut bytes at format image more s cut few sized is =

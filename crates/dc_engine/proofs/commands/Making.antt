@@ -7,8 +7,7 @@ use Rattle.disk_core.specs.States.{DiskState, Rose, fewer}
 use Rattle.disk_core.specs.Fuses.{fused_state, unarmed}
 use Rattle.disk_core.specs.declared.fused.Fused.{Fused}
 use Rattle.disk_makers.specs.Makers.{Maker, IsMade, IsSound}
-use Rattle.gate_log.specs.Rest.{Lowers}
-use Rattle.twin_log.specs.Rests.{AtRest, first_spot}
+use Rattle.gate_log.specs.Rest.{AtRest, Lowers}
 use Rattle.world_model.specs.declared.step.Step.{Step}
 use Rattle.site_partitions.specs.Made.{AreBlank, HandsBack}
 use Rattle.site_partitions.specs.Sound.{AllSound}
@@ -21,7 +20,7 @@ use Rattle.dc_engine.proofs.commands.Returned.{close_by}
 module _ {D : Type 0} (state : D → DiskState) where
   -- one more disk, with a fuse that isn't armed
   pub blank_more : (made : List (Fused D)) (disk : D) (fused : Fused D) → IsMade (state disk) → fused_state state fused ≡ unarmed (state disk) → AreBlank (fused_state state) made → AreBlank (fused_state state) (made ++ fused ∷ [])
-  blank_more [] disk fused m e b = ((first_spot, subst (λ s. AtRest s first_spot []) (sym e) (record { tells = m.log.tells; unwritten = m.log.unwritten; durable = m.log.durable; whole = m.log.whole; stands = m.log.stands })), tt)
+  blank_more [] disk fused m e b = ((8, subst (λ s. AtRest s 8 []) (sym e) (record { tells = m.log.tells; settled = m.log.settled; log = m.log.log; place = m.log.place })), tt)
   blank_more (f ∷ made) disk fused m e b = (b.0, blank_more made disk fused m e b.1)
 
   -- it is as sure as the disk inside

@@ -9,9 +9,8 @@ use Rattle.disk_core.specs.States.{DiskState}
 use Rattle.disk_core.specs.Fuses.{fused_state, inside}
 use Rattle.disk_core.specs.declared.fused.Fused.{Fused}
 use Rattle.disk_makers.specs.Makers.{Maker, TakesBack}
-use Rattle.twin_log.specs.Rests.{AtRest}
-use Rattle.twin_log.specs.Logs.{disk_of}
-use Rattle.twin_log.specs.declared.spot.Spot.{Spot}
+use Rattle.gate_log.specs.Rest.{AtRest}
+use Rattle.gate_log.specs.Logs.{disk_of}
 use Rattle.partition_core.specs.Durable.{Durable}
 use Rattle.world_model.specs.commands.Cluster.{sites_of, parts_of}
 use Rattle.world_model.specs.lines.Places.{IsPlace}
@@ -122,8 +121,8 @@ module _ {E D : Type 0} where
 
 module _ {D : Type 0} (state : D → DiskState) where
   -- a disk without its fuse holds what it holds with it
-  unfused : (disk : Fused D) (spot : Spot) (payloads : List (List ℕ)) → AtRest (fused_state state disk) spot payloads → AtRest (state (inside disk)) spot payloads
-  unfused disk spot payloads a = record { tells = a.tells; unwritten = a.unwritten; durable = a.durable; whole = a.whole; stands = a.stands }
+  unfused : (disk : Fused D) (end : ℕ) (payloads : List (List ℕ)) → AtRest (fused_state state disk) end payloads → AtRest (state (inside disk)) end payloads
+  unfused disk end payloads a = record { tells = a.tells; settled = a.settled; log = a.log; place = a.place }
 
   -- what was played is told of the disks too
   returned : (c : Standing D) (run : Run) (left : IsLeft state c run) (start mid end : Maker D) → IsUnchanged start mid → ReturnsAll c mid end → IsTrue start.tells → GivenBack state run (history (types (fused_state state)) c run left).events start end
@@ -145,7 +144,7 @@ module _ {D : Type 0} (state : D → DiskState) where
             let s = is_mapped_at disk_from partitions (index_of (parts_of run) p) other (omega (arith, below, count)) in
             let l = log_left (types (fused_state state)) w run r p s.one place up s.there in
             subst (λ (d : D). HoldsLogOf (sites_of run) (parts_of run) (history (types (fused_state state)) (Some w) run r).events p (state d)) (sym s.mapped)
-            (record { log = l.log; left = l.left; spot = _; at_rest = unfused (disk_of s.one.gates) _ _ l.records.is_open.at_rest; spelled = l.records.spelled });
+            (record { log = l.log; left = l.left; end = _; at_rest = unfused (disk_of s.one.gates) _ _ l.records.is_open.at_rest; spelled = l.records.spelled });
         rooms = rooms_left (types (fused_state state)) w run r (IsRoomIn state (parts_of run) (map disk_from partitions)) (λ p n place room other.
             let below = index_below (sites_of run) (parts_of run) p place in
             let s = is_mapped_at disk_from partitions (index_of (parts_of run) p) other (omega (arith, below, count)) in

@@ -2,7 +2,7 @@
 ghost use Rattle.std.specs.Prelude.{◌≡◌, ◌≤◌, ◌+◌, ◌*◌, ◌++◌, ◌∷◌, [], length, map, Err, IfOk, OnOk, OnErr};
 ghost use Rattle.disk_core.specs.Fuses.{fused_state, inside};
 ghost use Rattle.disk_core.specs.States.{Rose};
-ghost use Rattle.twin_log.specs.Logs.{disk_of};
+ghost use Rattle.gate_log.specs.Logs.{disk_of};
 ghost use Rattle.disk_makers.specs.Makers.{IsMade, IsSound, MakesAll};
 ghost use Rattle.site_partitions.specs.Made.{AreBlank};
 ghost use Rattle.site_partitions.specs.Reaches.{types_of};

@@ -1,7 +1,7 @@
 use Rattle.std.proofs.Common.{◌≡◌, ⊎_elim, Err, ap, sym, subst}
 use Rattle.std.proofs.lemmas.Result.{err_from_is_err_and}
 use Rattle.disk_core.specs.Moments.{AtEachMoment}
-use Rattle.twin_log.specs.Logs.{disk_of, read_at_opening}
+use Rattle.gate_log.specs.Logs.{disk_of, read_at_opening}
 use Rattle.log_records.specs.Records.{record_form}
 use Rattle.log_records.proofs.Wholes.{spelled_whole}
 use Rattle.crdt_core.specs.Log.{MayFind}
@@ -11,7 +11,6 @@ use Rattle.partition_log.specs.Logs.{HasRecords, HoldsFront}
 use Rattle.partition_log.proofs.Damaged.{same_read, never_refused}
 use Rattle.partition_core.specs.Restarts.{unopened}
 use Rattle.partition_core.specs.declared.restart.RestartError.TheVariants.{Damaged}
-use Rattle.partition_core.proofs.Telling.{unfit_there}
 use Rattle.partition_core.proofs.Rereading.{map_ok, opens_damaged}
 use Rattle.partition_core.proofs.told.read_again.Goals as goal
 
@@ -42,11 +41,7 @@ returns-clause-damaged g c = λ at e l torn leaves.
     let f = c.in_ok-reopen.ensures.finds l torn leaves in
     ⊎_elim
     (λ refused. absurd (never_refused codec reads items f.0 at f.2 refused))
-    (λ unfit. (
-      unfit.0,
-      subst (λ x. MayFind l torn x) (same_read codec reads items f.0 unfit.0 f.2 unfit.1) f.1,
-      unfit_there codec g.D.Disk.state (g.D.Disk.state (disk_of (gates_of c.args.log.now))) (gates_of c.reopen.new.self) c.in_ok-reopen.ensures.opened leaves.tells c.args.sites c.args.parts c.args.id unfit.0 at unfit.1 unfit.2,
-    ))
+    (λ unfit. (unfit.0, subst (λ x. MayFind l torn x) (same_read codec reads items f.0 unfit.0 f.2 unfit.1) f.1, unfit.2))
     (c.told_by-told.ensures.damaged at e)
 
 pub returns-clause-moments : goal.returns-clause-moments

@@ -1,13 +1,13 @@
 use Rattle.std.proofs.Common.{◌≡◌, List, inl, inr, ⊎_elim, Err, sym, ap, ◌∙◌, subst}
 use Rattle.std.proofs.lemmas.Result.{err_from_is_err_and}
-use Rattle.twin_log.specs.Logs.{read_at_opening}
+use Rattle.gate_log.specs.Logs.{read_at_opening}
 use Rattle.partition_log.specs.Codec.{codec_of}
 use Rattle.partition_log.specs.Gates.{gates_of}
 use Rattle.partition_log.proofs.Reading.{first_within, refused}
 use Rattle.partition_log.specs.Damage.{AreRecords}
 use Rattle.log_recovery.specs.Told.{HasRead}
 use Rattle.partition_core.specs.Restarts.{unopened}
-use Rattle.partition_core.specs.Unfit.{IsUnfitIn}
+use Rattle.partition_core.specs.Unfit.{IsUnfitAt}
 use Rattle.partition_core.specs.declared.restart.RestartError.TheVariants.{Damaged}
 use Rattle.partition_core.proofs.Rereading.{opens_damaged}
 use Rattle.partition_core.proofs.Telling.{IsUnderway, underway_starts, underway_more, underway_stops, underway_ends}
@@ -41,9 +41,9 @@ returns-then-not-branch-clause-damaged g c = λ at e.
     let h = c.loop-place.invariant in
     ⊎_elim
     (λ no_record. inl no_record)
-    (λ k. inr (subst (λ n. (l : List _) × AreRecords codec items l × IsUnfitIn c.args.sites c.args.parts c.args.id items l n) (sym k.0)
+    (λ k. inr (subst (λ n. (l : List _) × AreRecords codec items l × IsUnfitAt codec c.args.sites c.args.parts c.args.id l n) (sym k.0)
     (underway_stops codec c.args.sites c.args.parts c.args.id c.last_ceiling-top.result items c.loop-place.place-iterator (c.in-Some.place, c.in-Some.payload.now) c.next.new.self c.in_ok-record.record c.loop-place.recovery c.in-Some.ensures.steps c.in_ok-record.ensures.spelled c.in_ok-record.ensures.bytes h
-    c.read.new.self c.in_ok-read.field-0 c.if-not-branch.true (c.in_ok-read.ensures c.args.sites c.args.parts c.args.id c.last_ceiling-top.result h.so.log h.has) c.last_ceiling-top.ensures k.1.0 k.1.1)))
+    c.read.new.self c.in_ok-read.field-0 c.if-not-branch.true (c.in_ok-read.ensures c.args.sites c.args.parts c.args.id c.last_ceiling-top.result h.so.log h.has) c.last_ceiling-top.ensures k.1.0 k.1.1 c.requires.placed.0 c.requires.placed.1)))
     (c.damage_of.ensures.damaged at told)
 
 pub loop-place-preserved : goal.loop-place-preserved

@@ -1,4 +1,4 @@
-use Rattle.twin_log.specs.Logs.{read_at_opening}
+use Rattle.gate_log.specs.Logs.{read_at_opening}
 use Rattle.partition_log.specs.Gates.{gates_of}
 use Rattle.partition_log.specs.Codec.{codec_of}
 use Rattle.partition_core.proofs.Telling.{IsUnderway}

@@ -1,5 +1,3 @@
-use Rattle.std.proofs.Common.{ap}
-use Rattle.twin_log.specs.declared.spot.Spot.{Spot}
 use Rattle.partition_log.specs.Codec.{codec_of}
 use Rattle.partition_log.proofs.One.{on_ok, has_one, keeps_one, moments_of_one, full_at_one, one_is_full, gate_at_one}
 use Rattle.partition_log.proofs.append.append_one.Goals as goal
@@ -22,7 +20,7 @@ returns-clause-appends g c = λ r spelled is.
       full = λ open_still past _. one_is_full codec state old new c.args.payload.now r spelled is result does.full open_still past;
       failed = does.failed;
       refused = does.refused;
-      gate = gate_at_one codec state old new c.args.payload.now r spelled is result (on_ok result (ap (λ (s : Spot). s.end)) does.gate);
+      gate = gate_at_one codec state old new c.args.payload.now r spelled is result does.gate;
       stays_open = does.stays_open;
       read = does.read;
       ready = does.ready;

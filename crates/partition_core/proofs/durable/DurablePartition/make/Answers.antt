@@ -3,7 +3,7 @@ use Rattle.log_records.specs.Records.{record_form}
 use Rattle.log_records.proofs.Wholes.{spelled_whole}
 use Rattle.log_recovery.specs.Recovered.{AreKnown}
 use Rattle.log_recovery.specs.Rising.{Rises}
-use Rattle.twin_log.specs.Logs.{read_at_opening}
+use Rattle.gate_log.specs.Logs.{read_at_opening}
 use Rattle.partition_log.specs.Codec.{codec_of}
 use Rattle.partition_log.specs.Gates.{gates_of}
 use Rattle.partition_log.specs.Logs.{HasRecords}
@@ -11,7 +11,6 @@ use Rattle.partition_log.proofs.Damaged.{same_read}
 use Rattle.partition_log.proofs.Opened.{opened_records, opened_damaged}
 use Rattle.partition_core.specs.Durable.{StandsOn}
 use Rattle.partition_core.specs.Recovered.{resumed}
-use Rattle.partition_core.proofs.Telling.{unfit_there}
 use Rattle.partition_core.proofs.Making.{new_stands}
 use Rattle.partition_core.proofs.Rereading.{map_ok, map_both, map_err, opens_damaged}
 use Rattle.partition_core.proofs.durable.DurablePartition.make.Goals as goal
@@ -26,7 +25,7 @@ returns-in-Ok-clause-damaged g c = map_err c.wake.result
     let disk = g.D.Disk.state c.args.disk in
     ⊎_elim
     (λ refused. inl (opened_damaged codec g.D.Disk.state disk (gates_of c.in-Ok.log) c.in-Ok.ensures.opened at refused told))
-    (λ unfit. inr (unfit.0, unfit_there codec g.D.Disk.state disk (gates_of c.in-Ok.log) c.in-Ok.ensures.opened told c.args.sites c.args.parts c.args.id unfit.0 at unfit.1 unfit.2))
+    (λ unfit. inr (unfit.0, (opened_records codec g.D.Disk.state disk (gates_of c.in-Ok.log) c.in-Ok.ensures.opened unfit.0 unfit.1 told).0, unfit.2))
     (f at is))
     c.wake.ensures.damaged
 
@@ -50,9 +49,9 @@ returns-in-Ok-clause-read g c = map_both c.wake.result
 
 pub returns-in-Ok-clause-new : goal.returns-in-Ok-clause-new
 returns-in-Ok-clause-new g c = map_ok c.wake.result
-    (λ p s spot rest.
+    (λ p s end rest.
     let codec = codec_of g.C.Crdt.spells in
-    let h = c.in-Ok.ensures.holds rest.tells [] (record { format = spot.format; is_log = rest.stands.log; spelled = refl }) in
+    let h = c.in-Ok.ensures.holds rest.tells [] (record { is_log = rest.log; spelled = refl }) in
     let same : [] ≡ s.0 = same_read codec (spelled_whole (record_form g.C.Crdt.spells)) (read_at_opening (gates_of c.in-Ok.log)) [] s.0 h.0 s.1 in
     let has : HasRecords codec g.D.Disk.state (gates_of c.in-Ok.log) s.0 = subst (λ l. HasRecords codec g.D.Disk.state (gates_of c.in-Ok.log) l) same h.1 in
     let lent : Rises s.0 = subst (λ l. Rises l) same tt in

@@ -1,7 +1,5 @@
 use Rattle.std.proofs.Common.{◌∙◌, true, false, List, Err}
 use Rattle.std.proofs.lemmas.Result.{err_from_is_err_and}
-use Rattle.disk_core.specs.States.{bytes_of}
-use Rattle.twin_log.specs.Logs.{disk_of}
 use Rattle.crdt_core.specs.KindsOf.{kinds_of}
 use Rattle.partition_log.specs.Codec.{codec_of}
 use Rattle.partition_log.specs.Gates.{gates_of}
@@ -27,7 +25,7 @@ returns-in_err-told g c =
     let same = same_tables c.self.inside.tables c.make.result (made.0 ∙ at.0) (made.1 ∙ at.1) (made.2 ∙ at.2) in
     let e = c.in_err-told.ensures in
     rw (p.1, p.2) (opened_restart kinds codec g.D.Disk.state v c.args.self.now new (Err c.in_err-told.field-0.0) c.self.view_is (unread kinds codec g.D.Disk.state v (gates_of c.read_again.new.log) e.goes_on e.left e.moments c.make.result same c.in_err-told.field-0.0 e.failed
-    (λ place k l torn leaves. same_place (λ a b i. (found : List _) × MayFind l torn found × IsUnfitAt codec a b i (bytes_of (g.D.Disk.state (disk_of (gates_of c.self.inside.log)))) found place) c.place-sites.result.0 c.place-sites.result.1 c.place-sites.result.2 c.self.inside.tables at (e.damaged place k l torn leaves))))
+    (λ place k l torn leaves. same_place (λ a b i. (found : List _) × MayFind l torn found × IsUnfitAt codec a b i found place) c.place-sites.result.0 c.place-sites.result.1 c.place-sites.result.2 c.self.inside.tables at (e.damaged place k l torn leaves))))
 
 pub returns-in_err-tables : goal.returns-in_err-tables
 returns-in_err-tables g c =

@@ -2,14 +2,14 @@ use Rattle.std.proofs.Common.{inl}
 use Rattle.std.proofs.lemmas.Result.{on_ok_weaker}
 use Rattle.log_records.specs.Records.{record_form}
 use Rattle.log_records.proofs.Wholes.{spelled_whole}
-use Rattle.twin_log.specs.Logs.{disk_of}
+use Rattle.gate_log.specs.Logs.{disk_of}
 use Rattle.partition_log.specs.Codec.{codec_of}
 use Rattle.partition_log.specs.Gates.{gates_of}
 use Rattle.partition_log.proofs.Reopening.{either_way, front_at_each_moment, front_found, front_whole}
 use Rattle.partition_log.proofs.log.PartLog.reopen.Goals as goal
 
 pub returns-clause-opened : goal.returns-clause-opened
-returns-clause-opened g c = on_ok_weaker c.reopen.result (λ o. record { image = o.0; tail = o.1; read = o.2; holds = o.4 }) c.reopen.ensures.opened
+returns-clause-opened g c = on_ok_weaker c.reopen.result (λ o. record { payloads = o.0; read = o.1; holds = o.3 }) c.reopen.ensures.opened
 
 pub returns-clause-finds : goal.returns-clause-finds
 returns-clause-finds g c = λ log torn leaves.
