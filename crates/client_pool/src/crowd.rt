@@ -1,18 +1,16 @@
 ghost use Rattle.std.specs.Prelude.{◌≡◌, ◌≤◌, ◌+◌, ℕ, true, List, IfOk, IfErr};
-ghost use Rattle.std.specs.Thread.{IsSync};
 ghost use Rattle.crdt_core.specs.declared.kind.Kind.TheVariants as kind;
 ghost use Rattle.txn_session.specs.Calls.{Call, Stays};
 ghost use Rattle.txn_session.specs.Numbers.{IsLeast};
 ghost use Rattle.txn_session.specs.Passes.{IsShared};
 ghost use Rattle.client_pool.specs.Coming.{IsStopped};
-ghost use Rattle.client_pool.specs.Loads.{HasSeen, HasLoad};
+ghost use Rattle.client_pool.specs.Loads.{HasSeen};
 ghost use Rattle.client_pool.specs.Crowds.{IsSplit, IsMet, HasCrowd, first_fault};
 
 use crate::client::run_client;
 use crate::{Fault, Gate, Plan};
 use crdt_core::Crdt;
 use std::alloc::Global;
-use std::thread::{Threads, join};
 use txn_session::{Clock, Store};
 
 /// The first fault of two.
@@ -47,15 +45,14 @@ fn bring<C: Crdt, S: Store<C> + Copy>(store: S, first: S::Pass, second: S::Pass)
     store.meet(first, second)
 }
 
-/// Runs the clients from this one on, each in a thread of its own, and joins them all.
+/// Runs the clients from this one on, one after another, each with a pass of its own.
 ///
 /// A client that ends early leaves the others to go on.
 ///
 /// # Errors
 ///
 /// `Down` where a partition stopped; `NoMemory` where memory runs out. Of several faults it is that of the least client.
-pub fn run_clients<R: Threads + Sync, C: Crdt + Send + Sync, S: Store<C> + Copy + Send + Sync, G: Gate + Sync, K: Clock + Sync>(
-    rt: &R,
+pub fn run_clients<C: Crdt, S: Store<C> + Copy, G: Gate, K: Clock>(
     alloc: Global,
     store: S,
     plan: Plan,
@@ -64,10 +61,6 @@ pub fn run_clients<R: Threads + Sync, C: Crdt + Send + Sync, S: Store<C> + Copy 
     pass: S::Pass,
     first: u8,
 ) -> (S::Pass, Result<(), Fault>)
-where
-    S::Pass: Send + Sync,
-    C::Effect: Send + Sync,
-    C::State: Send + Sync,
     requires shared { IsShared S.sees S.numbers S.stays }
     requires sites { S.sites store ≡ plan.sites }
     requires parts { S.parts store ≡ plan.parts }
@@ -88,22 +81,8 @@ where
         Ok(both) => both,
         Err(pass) => return (pass, Err(Fault::NoMemory)),
     };
-    let ((own, one), (rest, others)) = join(
-        rt,
-        || -> (S::Pass, Result<(), Fault>)
-            requires { IsShared S.sees S.numbers S.stays × (S.sites store ≡ plan.sites) × (S.parts store ≡ plan.parts) × (1 ≤ first) × (C.has kind.CounterPn ≡ true) × (C.has kind.SetAw ≡ true) × HasSeen S.sees S.numbers store own }
-            ensures same { (n : ℕ) → S.numbers result.0 n ≡ S.numbers own n }
-            ensures ok { IfOk result.1 (λ u. HasLoad S.sees S.numbers store own result.0 plan first) }
-            ensures err { IfErr result.1 (λ fault. IsStopped S.sees S.numbers store result.0 fault) }
-        { run_client(alloc, store, &plan, gate, clock, own, first) },
-        || -> (S::Pass, Result<(), Fault>)
-            requires { IsSync R.row × IsShared S.sees S.numbers S.stays × (S.sites store ≡ plan.sites) × (S.parts store ≡ plan.parts) × (1 ≤ first) × (first ≤ plan.clients) × (C.has kind.CounterPn ≡ true) × (C.has kind.SetAw ≡ true) × HasSeen S.sees S.numbers store rest }
-            ensures keeps { (n : ℕ) → S.numbers rest n ≡ true → S.numbers result.0 n ≡ true }
-            ensures least { (k : ℕ) → IsLeast (S.numbers rest) k → IsLeast (S.numbers result.0) k }
-            ensures ok { IfOk result.1 (λ u. HasCrowd S.sees S.numbers store rest result.0 plan (first + 1)) }
-            ensures err { IfErr result.1 (λ fault. IsStopped S.sees S.numbers store result.0 fault) }
-        { run_clients(rt, alloc, store, plan, gate, clock, rest, first + 1) },
-    );
+    let (own, one) = run_client(alloc, store, &plan, gate, clock, own, first);
+    let (rest, others) = run_clients(alloc, store, plan, gate, clock, rest, first + 1);
     let pass = bring(store, rest, own);
     (pass, either(one, others))
 }
